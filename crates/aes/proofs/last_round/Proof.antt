@@ -1,0 +1,20 @@
+-- `last_round` is the last round: its four columns side by side. Assumes nothing.
+use Rattle.octets.specs.Octets.{digits, xor}
+use Rattle.aes.specs.Cipher.{subBytes, shiftRows, roundKey, addRoundKey, lastRound}
+use Rattle.aes.proofs.Columns.{joined}
+use borrow.Author.Needs.{needs}
+use Rattle.aes.proofs.last_round.Statement.{statement}
+use Rattle.aes.proofs.last_round.Tie as tie
+
+returns : tie.Need-returns
+unfolding digits xor subBytes shiftRows roundKey addRoundKey lastRound
+returns c =
+    joined _ _ _ _ (c .before .before .before .before .before .before .«last-column» .ensures) (c .before .before .before .before .«last-column2» .ensures)
+    (c .before .before .«last-column3» .ensures) (c .«last-column4» .ensures)
+
+pub last-round-spec : {M : Type 1} → statement M
+last-round-spec =
+    tie.close
+    (tie.spec
+    (λ c. search needs) (λ c κs. search needs) (λ c. search needs) (λ c κs. search needs) (λ c. search needs)
+    (λ c κs. search needs) (λ c. search needs) (λ c κs. search needs) returns)

@@ -1,0 +1,22 @@
+-- `one_round` is a round: its four columns side by side. Assumes nothing.
+use Rattle.octets.specs.Octets.{digits, xor}
+use Rattle.aes.specs.Cipher.{subBytes, shiftRows, mixColumn, mixColumns, roundKey, addRoundKey, oneRound}
+use Rattle.aes.proofs.Columns.{joined}
+use borrow.Author.Needs.{needs}
+use Rattle.aes.proofs.one_round.Statement.{statement}
+use Rattle.aes.proofs.one_round.Tie as tie
+
+returns : tie.Need-returns
+unfolding digits xor subBytes shiftRows mixColumn mixColumns roundKey addRoundKey oneRound
+returns c =
+    joined _ _ _ _ (c .before .before .before .before .before .before .column .ensures) (c .before .before .before .before .column2 .ensures)
+    (c .before .before .column3 .ensures) (c .column4 .ensures)
+
+pub one-round-spec : {M : Type 1} → statement M
+one-round-spec =
+    tie.close
+    (tie.spec
+    (λ c. search needs) (λ c. search needs) (λ c. search needs) (λ c κs. search needs) (λ c. search needs)
+    (λ c. search needs) (λ c. search needs) (λ c κs. search needs) (λ c. search needs) (λ c. search needs)
+    (λ c. search needs) (λ c κs. search needs) (λ c. search needs) (λ c. search needs) (λ c. search needs)
+    (λ c κs. search needs) returns)

@@ -1,0 +1,4 @@
+pub mod Words
+pub mod Cipher
+pub mod KeyExpansion
+pub mod Block

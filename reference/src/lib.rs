@@ -1,0 +1,18 @@
+//! The independent second program of Vetrhoss.
+//!
+//! It is written from FIPS 197, TS 35.206 and the project's own rules for the
+//! test set alone, in the plainest form, so that its answers can be compared
+//! with those of the proved implementation.
+
+pub mod aes;
+pub mod aes_vectors;
+pub mod block;
+pub mod damage;
+pub mod function_vectors;
+pub mod functions;
+pub mod generate;
+pub mod milenage;
+pub mod published;
+pub mod random;
+pub mod test_set;
+pub mod text;

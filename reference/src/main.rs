@@ -1,0 +1,50 @@
+//! The commands of the second program.
+
+use std::io::{self, Read, Write};
+use std::path::Path;
+use std::process::ExitCode;
+
+use reference::{aes_vectors, function_vectors, generate};
+
+const USAGE: &str = "usage: reference aes-vectors | function-vectors | generate DIR";
+
+fn main() -> ExitCode {
+    let arguments: Vec<_> = std::env::args_os().skip(1).collect();
+    let words: Vec<_> = arguments.iter().map(|a| a.to_str()).collect();
+    let done = match words[..] {
+        [Some("aes-vectors")] => answer(aes_vectors::answers),
+        [Some("function-vectors")] => answer(function_vectors::answers),
+        [Some("generate"), _] => write_files(Path::new(&arguments[1])),
+        _ => {
+            eprintln!("{USAGE}");
+            return ExitCode::from(2);
+        }
+    };
+    match done {
+        Ok(()) => ExitCode::SUCCESS,
+        Err(error) => {
+            eprintln!("reference: {error}");
+            ExitCode::FAILURE
+        }
+    }
+}
+
+/// Standard input to standard output.
+fn answer(answers: fn(&[u8]) -> Vec<u8>) -> io::Result<()> {
+    let mut input = Vec::new();
+    io::stdin().read_to_end(&mut input)?;
+    let mut output = io::stdout();
+    output.write_all(&answers(&input))?;
+    output.flush()
+}
+
+fn write_files(folder: &Path) -> io::Result<()> {
+    for (name, bytes) in generate::files() {
+        let path = folder.join(name);
+        if let Some(parent) = path.parent() {
+            std::fs::create_dir_all(parent)?;
+        }
+        std::fs::write(path, bytes)?;
+    }
+    Ok(())
+}

@@ -1,0 +1,62 @@
+//! Lines, fields and hex digits. All of it works on bytes, since the input may
+//! hold any byte.
+
+pub const BAD_LINE: &[u8] = b"bad line";
+
+/// The lines of the input without their newlines. A line ends at a newline, or
+/// at the end of the input if bytes follow the last newline.
+pub fn lines(input: &[u8]) -> Vec<&[u8]> {
+    let mut lines: Vec<&[u8]> = input.split(|&b| b == b'\n').collect();
+    // What follows the last newline is a line only if it holds a byte.
+    if lines.last().is_some_and(|last| last.is_empty()) {
+        lines.pop();
+    }
+    lines
+}
+
+/// One answer to each line of the input, every one ended by a newline.
+pub fn answers(input: &[u8], answer: fn(&[u8]) -> Vec<u8>) -> Vec<u8> {
+    let mut output = Vec::new();
+    for line in lines(input) {
+        output.extend(answer(line));
+        output.push(b'\n');
+    }
+    output
+}
+
+/// The fields of a line with exactly one space between them. Two spaces side
+/// by side, or one at an end, give an empty field, which no rule takes.
+pub fn fields<const N: usize>(line: &[u8]) -> Option<[&[u8]; N]> {
+    let fields: Vec<&[u8]> = line.split(|&b| b == b' ').collect();
+    fields.try_into().ok()
+}
+
+fn hex_digit(digit: u8) -> Option<u8> {
+    match digit {
+        b'0'..=b'9' => Some(digit - b'0'),
+        b'a'..=b'f' => Some(digit - b'a' + 10),
+        _ => None,
+    }
+}
+
+/// N bytes from exactly 2N lower-case hex digits.
+pub fn read_hex<const N: usize>(digits: &[u8]) -> Option<[u8; N]> {
+    if digits.len() != 2 * N {
+        return None;
+    }
+    let mut bytes = [0; N];
+    for (byte, pair) in bytes.iter_mut().zip(digits.chunks_exact(2)) {
+        *byte = hex_digit(pair[0])? << 4 | hex_digit(pair[1])?;
+    }
+    Some(bytes)
+}
+
+/// Two lower-case hex digits for each byte.
+pub fn write_hex(bytes: &[u8]) -> Vec<u8> {
+    const DIGITS: &[u8; 16] = b"0123456789abcdef";
+    let digit = |value: u8| DIGITS[usize::from(value)];
+    bytes
+        .iter()
+        .flat_map(|b| [digit(b >> 4), digit(b & 15)])
+        .collect()
+}
