@@ -1,0 +1,15 @@
+-- `out4` is OUT4. Assumes nothing.
+use Rattle.milenage.proofs.Sums.{output}
+use borrow.Author.Needs.{needs}
+use Rattle.milenage.proofs.out4.Statement.{statement}
+use Rattle.milenage.proofs.out4.Tie as tie
+
+returns : tie.Need-returns
+returns c =
+    output _ _ _ 8 4 (c .before .before .before .xor .ensures) (c .before .before .left2 .ensures) (c .before .with-constant .ensures) (c .masked .ensures)
+
+pub out4-spec : {M : Type 1} → statement M
+out4-spec =
+    tie.close
+    (tie.spec
+    (λ c κs. search needs) (λ c κs. search needs) (λ c κs. search needs) (λ c κs. search needs) returns)
