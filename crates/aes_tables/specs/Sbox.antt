@@ -1,5 +1,5 @@
 -- The S-box of FIPS 197, section 5.1.1. Assumes nothing: these are definitions.
-use mathlib.Core.List.{List, [], _∷_}
+use mathlib.Core.List.{List, [], _∷_, map}
 use mathlib.Core.Path.{_≡_}
 use Prim.Native.Nat.{ℕ, zero, suc, _+_, _%_, _<_}
 use lib.ListN.{getD}
@@ -20,9 +20,7 @@ unfoldable pub affineBit : ℕ → ℕ → ℕ
 affineBit b i = (bit i b + bit ((i + 4) % 8) b + bit ((i + 5) % 8) b + bit ((i + 6) % 8) b + bit ((i + 7) % 8) b + bit i 0x63) % 2
 
 unfoldable pub affine : ℕ → ℕ
-affine b =
-    number 2
-    (affineBit b 7 ∷ affineBit b 6 ∷ affineBit b 5 ∷ affineBit b 4 ∷ affineBit b 3 ∷ affineBit b 2 ∷ affineBit b 1 ∷ affineBit b 0 ∷ [])
+affine b = number 2 (map (affineBit b) (7 ∷ 6 ∷ 5 ∷ 4 ∷ 3 ∷ 2 ∷ 1 ∷ 0 ∷ []))
 
 unfoldable pub sbox : ℕ → ℕ
 sbox x = affine (inverse x)

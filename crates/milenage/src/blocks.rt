@@ -6,7 +6,7 @@ ghost use Rattle.octets.specs.Octets.{xor as xorOctets, turnLeft};
 ghost use Rattle.aes.specs.Block.{octetsOf};
 ghost use Rattle.milenage.specs.Milenage.{constant};
 
-pub(crate) fn xor(p: Block, q: Block) -> Block
+pub fn xor(p: Block, q: Block) -> Block
     ensures { λ r. ⌜ octetsOf r ≡ xorOctets (octetsOf p) (octetsOf q) ⌝ }
 {
     Block {

@@ -1,6 +1,6 @@
 // MILENAGE of 3GPP TS 35.206 on blocks of four words. The round table and the key schedule are lent; TEMP is computed once for
 // a RAND and handed to each output.
-mod blocks;
+pub mod blocks;
 
 use aes::Block;
 ghost use mathlib.Core.Path.{_≡_};

@@ -2,3 +2,4 @@ pub mod Xor
 pub mod Numbers
 pub mod Strings
 pub mod Tables
+pub mod Ranges

@@ -1,0 +1,120 @@
+-- How a vector, AUTN and AUTS lie in octets: sizes and places, writing and reading; and the parts of lent octets.
+-- TS 33.102 §6.3.2 and §6.3.3; document 01, 'Numbers and records'. Assumes nothing.
+use Prim.Native.Nat.{ℕ, zero, suc, _+_, _*_, _/_, _%_}
+use mathlib.Core.Bool.{Bool, _&&_, cond}
+use mathlib.Core.List.{List, [], _++_}
+use lib.Dec.{eqb, ltb, leb}
+use lib.ListN.{length, take, drop}
+use Rattle.octets.specs.Octets.{Octets, part}
+
+-- ---- sizes, in octets
+
+abbrev pub keySize : ℕ  -- K and OPc
+keySize = 16
+
+abbrev pub randSize : ℕ
+randSize = 16
+
+abbrev pub resSize : ℕ  -- RES and XRES
+resSize = 8
+
+abbrev pub ckSize : ℕ
+ckSize = 16
+
+abbrev pub ikSize : ℕ
+ikSize = 16
+
+abbrev pub sqnSize : ℕ  -- SQN and SQN_MS, AK and AK*
+sqnSize = 6
+
+abbrev pub amfSize : ℕ
+amfSize = 2
+
+abbrev pub macSize : ℕ  -- MAC and MAC-S
+macSize = 8
+
+abbrev pub autnSize : ℕ
+autnSize = 16
+
+abbrev pub autsSize : ℕ
+autsSize = 14
+
+abbrev pub vectorSize : ℕ
+vectorSize = 72
+
+-- ---- AUTN: SQN xor AK, AMF, MAC
+
+pub record Autn : Type 0 where
+  pub concealed : Octets  -- SQN xor AK
+  pub amf : Octets
+  pub mac : Octets
+
+unfoldable pub writeAutn : Autn → Octets
+writeAutn a = a .concealed ++ (a .amf ++ a .mac)
+
+unfoldable pub readAutn : Octets → Autn
+readAutn x = record { concealed = part 0 sqnSize x; amf = part 6 amfSize x; mac = part 8 macSize x }
+
+-- ---- AUTS: SQN_MS xor AK*, MAC-S
+
+pub record Auts : Type 0 where
+  pub concealed : Octets  -- SQN_MS xor AK*
+  pub mac : Octets  -- MAC-S
+
+unfoldable pub writeAuts : Auts → Octets
+writeAuts a = a .concealed ++ a .mac
+
+unfoldable pub readAuts : Octets → Auts
+readAuts x = record { concealed = part 0 sqnSize x; mac = part 6 macSize x }
+
+-- ---- a vector: RAND, XRES, CK, IK, AUTN
+
+pub record Vector : Type 0 where
+  pub rand : Octets
+  pub xres : Octets
+  pub ck : Octets
+  pub ik : Octets
+  pub autn : Octets
+
+unfoldable pub writeVector : Vector → Octets
+writeVector v = v .rand ++ (v .xres ++ (v .ck ++ (v .ik ++ v .autn)))
+
+unfoldable pub readVector : Octets → Vector
+readVector x = record {
+  rand = part 0 randSize x;
+  xres = part 16 resSize x;
+  ck = part 24 ckSize x;
+  ik = part 40 ikSize x;
+  autn = part 56 autnSize x;
+}
+
+-- ---- lent octets: RANDs and a batch, one behind the other; places count from 0
+
+-- the most vectors of a batch
+abbrev pub mostVectors : ℕ
+mostVectors = 5
+
+abbrev pub randAt : Octets → ℕ → Octets
+randAt rands k = part (randSize * k) randSize rands
+
+abbrev pub octetsAt : Octets → ℕ → Octets
+octetsAt batch k = part (vectorSize * k) vectorSize batch
+
+abbrev pub vectorAt : Octets → ℕ → Vector
+vectorAt batch k = readVector (octetsAt batch k)
+
+-- refusal 3 does not apply to place k of a batch: it has one to five whole vectors, and k is a place of theirs
+unfoldable pub isPlace : Octets → ℕ → Bool
+isPlace batch k =
+    leb vectorSize (length batch) && leb (length batch) (vectorSize * mostVectors)
+    && eqb (length batch % vectorSize) 0
+    && ltb k (length batch / vectorSize)
+
+-- the vector at place k, handed back as a part of the caller's own octets; an empty part stands for refusal 3
+unfoldable pub handedBack : Octets → ℕ → Octets
+handedBack batch k = cond (isPlace batch k) (octetsAt batch k) []
+
+-- f 0, f 1, .., f (n - 1), one behind the other
+unfoldable pub joined : (ℕ → Octets) → ℕ → Octets
+joined f zero = []
+joined f (suc n) = joined f n ++ f n

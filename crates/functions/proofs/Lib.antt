@@ -1,0 +1,3 @@
+pub mod Choice
+pub mod Family
+pub mod Sample

@@ -1,0 +1,30 @@
+-- `f4` is f4 of either set. Assumes nothing.
+use Rattle.octets.specs.Octets.{Octets, turnLeft, xor, part}
+use Rattle.milenage.specs.Milenage.{out1, out2, out3, out4, out5, in1}
+use mathlib.Core.Path.{_≡_, ap, ap₂, _∙_}
+use mathlib.Core.List.{_++_}
+use lib.ListN.{take, drop}
+use Rattle.aka.specs.Functions.{Functions}
+use Rattle.functions.specs.Sets.{testSet, milenageSet}
+use Rattle.functions.proofs.Choice.{test, test-start, milenage, output}
+use borrow.Author.Needs.{needs}
+use Rattle.functions.proofs.f4.Statement.{statement}
+use Rattle.functions.proofs.f4.Tie as tie
+
+returns : tie.Need-returns
+unfolding testSet
+returns c = λ keys rand s.
+    let z = c .before .before .if1 .taken in
+    c .left2 .ensures ∙ ap (turnLeft 2) (c .before .to-octets .ensures ∙ test-start keys rand _ _ s z) ∙ test keys rand _ _ s z (λ (F : Functions). F .f4 rand)
+
+returns-2 : tie.Need-returns-2
+unfolding milenageSet
+returns-2 c = λ keys rand s.
+    let n = c .before .before .if1 .left in
+    c .to-octets2 .ensures ∙ c .before .out4 .ensures ∙ output keys rand _ _ s n out4 ∙ milenage keys rand _ _ s n (λ (F : Functions). F .f4 rand)
+
+pub f4-spec : {M : Type 1} → statement M
+f4-spec =
+    tie.close
+    (tie.spec
+    (λ c κs. search needs) (λ c κs. search needs) returns (λ c κs. search needs) (λ c κs. search needs) returns-2)

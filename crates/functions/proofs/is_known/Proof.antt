@@ -1,0 +1,15 @@
+-- `is_known` is the family's test. Assumes nothing.
+use mathlib.Core.Path.{refl}
+use Rattle.functions.specs.Sets.{sets}
+use borrow.Author.Needs.{needs}
+use Rattle.functions.proofs.is_known.Statement.{statement}
+use Rattle.functions.proofs.is_known.Tie as tie
+
+returns : tie.Need-returns
+unfolding sets
+returns c = refl
+
+pub is-known-spec : {M : Type 1} → statement M
+is-known-spec = tie.close
+    (tie.spec
+    returns)

@@ -1,0 +1,4 @@
+pub mod BufferLaws
+pub mod HexLaws
+pub mod LineLaws
+pub mod Walks

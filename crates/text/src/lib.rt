@@ -1,0 +1,3 @@
+// Text of programs that answer lines: hex, and lines read in pieces.
+pub mod hex;
+pub mod lines;
