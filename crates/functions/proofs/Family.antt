@@ -19,12 +19,6 @@ use Rattle.functions.specs.Sets.{testX, testSet, milenageT, milenageSet,
 part-size : (start size : ℕ) (x : Octets) → start + size ≤ length x → length (part start size x) ≡ size
 part-size start size x h = simp (length-take, length-drop) (omega arith)
 
-first : (n : ℕ) (x : Octets) → length x ≡ 16 → n ≤ 16 → length (take n x) ≡ n
-first n x h l = part-size 0 n x (omega arith)
-
-last : (x : Octets) → length x ≡ 16 → length (part 8 8 x) ≡ 8
-last x h = part-size 8 8 x (omega arith)
-
 module _ (keys : Keys) (shape : Shaped keys) where
   -- ---- set 0
   x-size : (rand : Octets) → length rand ≡ 16 → length (testX keys rand) ≡ 16
@@ -43,8 +37,8 @@ module _ (keys : Keys) (shape : Shaped keys) where
     f1 = mac-size;
     f1* = mac-size;
     f2 = λ rand h. part-size 0 8 (testX keys rand) (omega (arith, x-size rand h));
-    f3 = λ rand h. length-turnLeft 1 (testX keys rand) ∙ x-size rand h;
-    f4 = λ rand h. length-turnLeft 2 (testX keys rand) ∙ x-size rand h;
+    f3 = λ rand h. length-turnLeft _ (testX keys rand) ∙ x-size rand h;
+    f4 = λ rand h. length-turnLeft _ (testX keys rand) ∙ x-size rand h;
     f5 = λ rand h. part-size 3 6 (testX keys rand) (omega (arith, x-size rand h));
     f5* = λ rand h. part-size 3 6 (testX keys rand) (omega (arith, x-size rand h));
   }
@@ -70,16 +64,22 @@ module _ (keys : Keys) (shape : Shaped keys) where
   unfolding out
   out-size r c t = masked-size _
 
+  part-of-out1 : (start size : ℕ) (t i : Octets) → start + size ≤ 16 → length (part start size (OUT1 t i)) ≡ size
+  part-of-out1 start size t i h = part-size start size (OUT1 t i) (omega (arith, out1-size t i))
+
+  part-of-out : (start size r c : ℕ) (t : Octets) → start + size ≤ 16 → length (part start size (OUT r c t)) ≡ size
+  part-of-out start size r c t h = part-size start size (OUT r c t) (omega (arith, out-size r c t))
+
   milenage-lengths : Lengths (milenageSet keys)
   unfolding milenageSet
   milenage-lengths = record {
-    f1 = λ sqn rand amf hs hr ha. first 8 (OUT1 (milenageT keys rand) (in1 sqn amf)) (out1-size (milenageT keys rand) (in1 sqn amf)) (omega arith);
-    f1* = λ sqn rand amf hs hr ha. last (OUT1 (milenageT keys rand) (in1 sqn amf)) (out1-size (milenageT keys rand) (in1 sqn amf));
-    f2 = λ rand h. last (OUT 0 1 (milenageT keys rand)) (out-size 0 1 (milenageT keys rand));
-    f3 = λ rand h. out-size 4 2 (milenageT keys rand);
-    f4 = λ rand h. out-size 8 4 (milenageT keys rand);
-    f5 = λ rand h. first 6 (OUT 0 1 (milenageT keys rand)) (out-size 0 1 (milenageT keys rand)) (omega arith);
-    f5* = λ rand h. first 6 (OUT 12 8 (milenageT keys rand)) (out-size 12 8 (milenageT keys rand)) (omega arith);
+    f1 = λ sqn rand amf hs hr ha. part-of-out1 0 8 (milenageT keys rand) (in1 sqn amf) (omega arith);
+    f1* = λ sqn rand amf hs hr ha. part-of-out1 8 8 (milenageT keys rand) (in1 sqn amf) (omega arith);
+    f2 = λ rand h. part-of-out 8 8 _ _ (milenageT keys rand) (omega arith);
+    f3 = λ rand h. out-size _ _ (milenageT keys rand);
+    f4 = λ rand h. out-size _ _ (milenageT keys rand);
+    f5 = λ rand h. part-of-out 0 6 _ _ (milenageT keys rand) (omega arith);
+    f5* = λ rand h. part-of-out 0 6 _ _ (milenageT keys rand) (omega arith);
   }
 
   -- ---- AK consists of octets
