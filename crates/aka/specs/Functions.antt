@@ -8,22 +8,19 @@ use Rattle.aka.specs.Layout.{keySize, randSize, resSize, ckSize, ikSize,
 
 -- what USIM and AuC both hold of a subscriber
 pub record Keys : Type 0 where
-  pub set : ℕ  -- the function set
+  pub set : ℕ  -- the number of the function set
   pub k : Octets
   pub opc : Octets
 
--- the functions of one subscriber; octet strings in, octet strings out
+-- the functions of one subscriber
 pub record Functions : Type 0 where
-  -- MAC, of SQN, RAND, AMF
-  pub f1 : Octets → Octets → Octets → Octets
-  -- MAC-S, of SQN_MS, RAND, AMF
-  pub f1* : Octets → Octets → Octets → Octets
-  -- RES, CK, IK, AK, AK*, each of RAND
-  pub f2 : Octets → Octets
-  pub f3 : Octets → Octets
-  pub f4 : Octets → Octets
-  pub f5 : Octets → Octets
-  pub f5* : Octets → Octets
+  pub f1 : (sqn rand amf : Octets) → Octets  -- MAC
+  pub f1* : (sqn rand amf : Octets) → Octets  -- MAC-S, of SQN_MS
+  pub f2 : (rand : Octets) → Octets  -- RES and XRES
+  pub f3 : (rand : Octets) → Octets  -- CK
+  pub f4 : (rand : Octets) → Octets  -- IK
+  pub f5 : (rand : Octets) → Octets  -- AK
+  pub f5* : (rand : Octets) → Octets  -- AK*
 
 -- the AMF of MAC-S: two zero octets
 abbrev pub dummyAmf : Octets
@@ -43,8 +40,10 @@ pub record Shaped (keys : Keys) : Type 0 where
 
 -- of inputs of the right length, results have theirs
 pub record Lengths (F : Functions) : Type 0 where
-  pub f1 : (sqn rand amf : Octets) → length sqn ≡ sqnSize → length rand ≡ randSize → length amf ≡ amfSize → length (F .f1 sqn rand amf) ≡ macSize
-  pub f1* : (sqn rand amf : Octets) → length sqn ≡ sqnSize → length rand ≡ randSize → length amf ≡ amfSize → length (F .f1* sqn rand amf) ≡ macSize
+  pub f1 : (sqn rand amf : Octets) → length sqn ≡ sqnSize → length rand ≡ randSize → length amf ≡ amfSize
+      → length (F .f1 sqn rand amf) ≡ macSize
+  pub f1* : (sqn rand amf : Octets) → length sqn ≡ sqnSize → length rand ≡ randSize → length amf ≡ amfSize
+      → length (F .f1* sqn rand amf) ≡ macSize
   pub f2 : (rand : Octets) → length rand ≡ randSize → length (F .f2 rand) ≡ resSize
   pub f3 : (rand : Octets) → length rand ≡ randSize → length (F .f3 rand) ≡ ckSize
   pub f4 : (rand : Octets) → length rand ≡ randSize → length (F .f4 rand) ≡ ikSize

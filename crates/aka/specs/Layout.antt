@@ -1,10 +1,10 @@
 -- How a vector, AUTN and AUTS lie in octets: sizes and places, writing and reading; and the parts of lent octets.
 -- TS 33.102 §6.3.2 and §6.3.3; document 01, 'Numbers and records'. Assumes nothing.
-use Prim.Native.Nat.{ℕ, zero, suc, _+_, _*_, _/_, _%_}
+use Prim.Native.Nat.{ℕ, zero, suc, _*_, _/_, _%_}
 use mathlib.Core.Bool.{Bool, _&&_, cond}
-use mathlib.Core.List.{List, [], _++_}
+use mathlib.Core.List.{[], _++_}
 use lib.Dec.{eqb, ltb, leb}
-use lib.ListN.{length, take, drop}
+use lib.ListN.{length}
 use Rattle.octets.specs.Octets.{Octets, part}
 
 -- ---- sizes, in octets

@@ -1,2 +1,28 @@
+-- Authentication and key agreement (TS 33.102 §6.3) on paper: what USIM and AuC do, and what is promised of them. Read in this order:
+--   Layout      octets of AUTN, AUTS and a vector; parts of lent octets
+--   Functions   f1 to f5*, the keys, and the laws of a family of function sets
+--   Sequence    SQN, SEQ, IND, the limit, D
+--   Usim        the card: its record and its answer to a challenge
+--   Auc         the centre: its record, an order, a resynchronisation
+--   Demand3     after a synchronisation failure and a resynchronisation the USIM accepts the new batch
+--   Table       the worked table of document 01
+--   UsimLaws, AucLaws    the other sentences of document 01 on card and centre, as laws
+--
+-- How to read a definition. `f : A → B` says that f takes an A and gives a B; `f a b` applies it. `pub`, `abbrev` and `unfoldable` only say who
+-- may use and open a definition. An octet string is a list of numbers, the first octet first: `[]` is the empty list, `x ∷ l` the list l with x
+-- before it, `x ++ y` one string behind another, `part start size x` the `size` octets from place `start` on, `getD l i 0` the element at place i
+-- (0 where there is none), `set l i x` the list with x at place i. `encode n x` is the number x in n octets, `decode` reads it.
+-- Tests give true or false: `eqb` equal, `ltb` below, `leb` at most, `equal` of strings; `&&` and, `||` or, `not`. `cond test a b` is a where the
+-- test passes, else b: a chain of them reads from the top, and the first test that passes decides. Numbers are whole and not negative: `-` stops
+-- at 0; `/` and `%` are quotient and remainder. A `data` type is one of its cases; a `record` has named fields, `r .field`.
+-- `module _ (w : ℕ) ..` fixes what the definitions under it share: outside they take it first.
+-- How to read a statement. `≡` equal, `→` if .. then, `×` and, `⊎` or, `↔` exactly if, `P → ⊥` not P; `(x : A) → ..` for every x.
 pub mod Layout
 pub mod Functions
+pub mod Sequence
+pub mod Usim
+pub mod Auc
+pub mod Demand3
+pub mod Table
+pub mod UsimLaws
+pub mod AucLaws

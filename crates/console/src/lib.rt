@@ -21,7 +21,7 @@ pub fn front<'a>(bytes: &'a [u8], n: usize) -> &'a [u8]
 
 // One read of the standard input, so that a line that is typed is answered at once. How many bytes came to the start of `piece`:
 // none at the end of the input, or where the read fails.
-pub fn next_piece(piece: &mut [u8]) -> usize
+fn fetch(piece: &mut [u8]) -> usize
     ensures { λ r. ⌜ Counts r (now (piece .exit)) ⌝ }
 {
     let got = libc::read(STDIN_FILENO, piece);
@@ -30,7 +30,7 @@ pub fn next_piece(piece: &mut [u8]) -> usize
 
 // Writes out the first `used` bytes of `out`; all, where there are fewer. A write that fails is passed over: a program has no exit
 // status to say so.
-pub fn flush(out: &[u8], used: usize) {
+fn flush(out: &[u8], used: usize) {
     io::write_all(STDOUT_FILENO, front(out, used));
 }
 
@@ -92,7 +92,7 @@ fn more(piece: &mut [u8], out: &[u8], input: Input) -> Input {
     if input.over {
         return ended(input.held);
     }
-    let size = next_piece(piece);
+    let size = fetch(piece);
     if size == 0 {
         return ended(input.held);
     }

@@ -5,19 +5,17 @@ use mathlib.Core.List.{List, _++_}
 use mathlib.Core.Path.{_≡_, refl, sym, ap, _∙_, subst}
 use native.Mathlib.Omega.{arith}
 use lib.Dec.{eqb}
-use lib.ListN.{length, take, drop, length-append, length-take, length-drop}
+use lib.ListN.{length, take, length-append}
 use Rattle.octets.specs.Octets.{Octets, part, xor, turnLeft, Below}
 use Rattle.octets.proofs.Xor.{length-xor}
 use Rattle.octets.proofs.Strings.{length-turnLeft}
+use Rattle.octets.proofs.Parts.{length-part}
 use Rattle.octets.proofs.Ranges.{below-part, below-xor}
 use Rattle.aes.specs.KeyExpansion.{keyExpansion, aes}
 use Rattle.aes.proofs.Range.{length-cipher, cipher-below}
 use Rattle.milenage.specs.Milenage.{constant, in1, out1, out}
 use Rattle.aka.specs.Functions.{Keys, Functions, Family, Shaped, Lengths, Lawful}
 use Rattle.functions.specs.Sets.{testX, testSet, milenageT, milenageSet, sets}
-
-part-size : (start size : ℕ) (x : Octets) → start + size ≤ length x → length (part start size x) ≡ size
-part-size start size x h = simp (length-take, length-drop) (omega arith)
 
 module _ (keys : Keys) (shape : Shaped keys) where
   -- ---- set 0
@@ -27,7 +25,7 @@ module _ (keys : Keys) (shape : Shaped keys) where
 
   mac-size : (sqn rand amf : Octets) → length sqn ≡ 6 → length rand ≡ 16 → length amf ≡ 2 → length (xor (take 8 (testX keys rand)) (sqn ++ amf)) ≡ 8
   mac-size sqn rand amf hs hr ha =
-      let first : length (take 8 (testX keys rand)) ≡ 8 = part-size 0 8 (testX keys rand) (omega (arith, x-size rand hr)) in
+      let first : length (take 8 (testX keys rand)) ≡ 8 = length-part 0 8 (testX keys rand) (omega (arith, x-size rand hr)) in
       let second : length (sqn ++ amf) ≡ 8 = length-append sqn amf ∙ omega arith in
       length-xor (take 8 (testX keys rand)) (sqn ++ amf) (omega arith) ∙ first
 
@@ -36,11 +34,11 @@ module _ (keys : Keys) (shape : Shaped keys) where
   test-lengths = record {
     f1 = mac-size;
     f1* = mac-size;
-    f2 = λ rand h. part-size 0 8 (testX keys rand) (omega (arith, x-size rand h));
+    f2 = λ rand h. length-part 0 8 (testX keys rand) (omega (arith, x-size rand h));
     f3 = λ rand h. length-turnLeft _ (testX keys rand) ∙ x-size rand h;
     f4 = λ rand h. length-turnLeft _ (testX keys rand) ∙ x-size rand h;
-    f5 = λ rand h. part-size 3 6 (testX keys rand) (omega (arith, x-size rand h));
-    f5* = λ rand h. part-size 3 6 (testX keys rand) (omega (arith, x-size rand h));
+    f5 = λ rand h. length-part 3 6 (testX keys rand) (omega (arith, x-size rand h));
+    f5* = λ rand h. length-part 3 6 (testX keys rand) (omega (arith, x-size rand h));
   }
 
   -- ---- MILENAGE: an output is a block of the cipher and OPc
@@ -65,10 +63,10 @@ module _ (keys : Keys) (shape : Shaped keys) where
   out-size r c t = masked-size _
 
   part-of-out1 : (start size : ℕ) (t i : Octets) → start + size ≤ 16 → length (part start size (OUT1 t i)) ≡ size
-  part-of-out1 start size t i h = part-size start size (OUT1 t i) (omega (arith, out1-size t i))
+  part-of-out1 start size t i h = length-part start size (OUT1 t i) (omega (arith, out1-size t i))
 
   part-of-out : (start size r c : ℕ) (t : Octets) → start + size ≤ 16 → length (part start size (OUT r c t)) ≡ size
-  part-of-out start size r c t h = part-size start size (OUT r c t) (omega (arith, out-size r c t))
+  part-of-out start size r c t h = length-part start size (OUT r c t) (omega (arith, out-size r c t))
 
   milenage-lengths : Lengths (milenageSet keys)
   unfolding milenageSet

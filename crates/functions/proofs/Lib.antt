@@ -1,3 +1,4 @@
 pub mod Choice
 pub mod Family
 pub mod Sample
+pub mod Protocol

@@ -9,7 +9,8 @@ ghost use mathlib.Core.Path.{_≡_};
 ghost use Rattle.octets.specs.Octets.{Octets};
 ghost use Rattle.aka.specs.Functions.{Keys as KeysOf};
 ghost use Rattle.aes.specs.Block.{octetsOf};
-ghost use Rattle.milenage.specs.Milenage.{in1 as IN1};
+ghost use Rattle.aes.specs.Cipher.{cipher};
+ghost use Rattle.milenage.specs.Milenage.{in1 as IN1, out1};
 ghost use Rattle.aes_tables.specs.RoundTable.{IsRoundTable};
 ghost use Rattle.functions.specs.Sets.{sets};
 ghost use Rattle.functions.specs.Challenge.{keysOf, IsSchedule, Started};
@@ -104,19 +105,27 @@ fn in1(sqn: [u8; 6], amf: [u8; 2]) -> Block
     }
 }
 
+// OUT1 of MILENAGE, which is MAC and then MAC-S.
+fn both_macs(t: &[u32; 256], w: &[u32; 44], c: Challenge, sqn: [u8; 6], amf: [u8; 2]) -> [u8; 16]
+    requires { ⌜ IsRoundTable (now t) ⌝ }
+    ensures { λ r. ⌜ r ≡ out1 (cipher (now (w .entry))) (octetsOf (c .opc)) (octetsOf (c .start)) (IN1 sqn amf) ⌝ }
+{
+    let opc = c.opc;
+    let start = c.start;
+    aes::to_octets(milenage::out1(t, w, opc, start, in1(sqn, amf)))
+}
+
 // MAC: f1 of SQN, RAND and AMF.
 pub fn f1(t: &[u32; 256], w: &[u32; 44], c: Challenge, sqn: [u8; 6], amf: [u8; 2]) -> [u8; 8]
     requires { ⌜ IsRoundTable (now t) ⌝ }
     ensures { λ r. ⌜ ((keys : KeysOf) (rand : Octets) → Started keys rand (now (w .entry)) c → r ≡ sets .under keys .f1 sqn rand amf) ⌝ }
 {
     let set = c.set;
-    let opc = c.opc;
     let start = c.start;
     if set == 0 {
         return test_set::mac(start, sqn, amf);
     }
-    let out1 = milenage::out1(t, w, opc, start, in1(sqn, amf));
-    octets::eight(aes::to_octets(out1), 0)
+    octets::eight(both_macs(t, w, c, sqn, amf), 0)
 }
 
 // MAC-S: f1* of SQN_MS, RAND and AMF.
@@ -125,13 +134,11 @@ pub fn f1s(t: &[u32; 256], w: &[u32; 44], c: Challenge, sqn: [u8; 6], amf: [u8; 
     ensures { λ r. ⌜ ((keys : KeysOf) (rand : Octets) → Started keys rand (now (w .entry)) c → r ≡ sets .under keys .f1* sqn rand amf) ⌝ }
 {
     let set = c.set;
-    let opc = c.opc;
     let start = c.start;
     if set == 0 {
         return test_set::mac(start, sqn, amf);
     }
-    let out1 = milenage::out1(t, w, opc, start, in1(sqn, amf));
-    octets::eight(aes::to_octets(out1), 8)
+    octets::eight(both_macs(t, w, c, sqn, amf), 8)
 }
 
 // RES and AK: f2 and f5 of RAND, which MILENAGE takes from one block.

@@ -3,3 +3,4 @@ pub mod Numbers
 pub mod Strings
 pub mod Tables
 pub mod Ranges
+pub mod Parts

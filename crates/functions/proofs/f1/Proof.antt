@@ -15,24 +15,18 @@ returns : tie.Need-returns
 unfolding testSet
 returns c = λ keys rand s.
     let z = c .before .if1 .taken in
-    let args = c .before .before .before .before .args in
+    let args = c .before .before .before .args in
     c .mac .ensures ∙ ap (λ (x : Octets). xor (take 8 x) (args .sqn ++ args .amf)) (test-start keys rand _ _ s z)
     ∙ test keys rand _ _ s z (λ (F : Functions). F .f1 (args .sqn) rand (args .amf))
 
 returns-2 : tie.Need-returns-2
 unfolding milenageSet
 returns-2 c = λ keys rand s.
-    let n = c .before .before .before .before .if1 .left in
-    let args = c .before .before .before .before .before .before .before .args in
-    let in1-is = c .before .before .before .in1 .ensures in
+    let n = c .before .before .if1 .left in
+    let args = c .before .before .before .before .args in
     c .eight .ensures
-    ∙ ap (take 8) (c .before .to-octets .ensures ∙ c .before .before .out1 .ensures ∙ ap (out1 _ _ _) in1-is
-    ∙ output keys rand _ _ s n (λ (E : Octets → Octets) (opc t : Octets). out1 E opc t (in1 (args .sqn) (args .amf))))
+    ∙ ap (take 8) (c .before .both-macs .ensures ∙ output keys rand _ _ s n (λ (E : Octets → Octets) (opc t : Octets). out1 E opc t (in1 (args .sqn) (args .amf))))
     ∙ milenage keys rand _ _ s n (λ (F : Functions). F .f1 (args .sqn) rand (args .amf))
 
 pub f1-spec : {M : Type 1} → statement M
-f1-spec =
-    tie.close
-    (tie.spec
-    (λ c κs. search needs) returns (λ c κs. search needs) (λ c κs. search needs) (λ c κs. search needs)
-    (λ c κs. search needs) returns-2)
+f1-spec = tie.close (tie.spec (λ c κs. search needs) returns (λ c κs. search needs) (λ c κs. search needs) returns-2)

@@ -1,0 +1,133 @@
+-- Demand 3, proved: the batch of a resynchronisation rises from above SEQ_MS, within D and the limit. Assumes nothing.
+use Prim.Native.Nat.{ℕ, _+_, _≤_, _<_}
+use mathlib.Core.Bool.{Bool, true, false, cond, or-true}
+use mathlib.Core.List.{List, [], _∷_}
+use mathlib.Core.Logic.{_⊎_, inl, inr}
+use mathlib.Core.Option.{none}
+use mathlib.Core.Path.{_≡_, refl, sym, ap, _∙_, subst}
+use native.Mathlib.Omega.{arith}
+use lib.ListN.{length}
+use Rattle.octets.specs.Octets.{Octets}
+use Rattle.aka.specs.Layout.{randSize, randAt, vectorAt}
+use Rattle.aka.specs.Functions.{Functions, Family, Lengths, Lawful}
+use Rattle.aka.specs.Sequence.{D, limit}
+use Rattle.aka.specs.Usim.{Usim, UsimAnswer, seqMs, syncFailure, unchanged}
+use Rattle.aka.specs.Auc.{AucAnswer, kept, reset, seqAt, indAt, batchFrom, inRange, startOf, macSRight, seqMsIn, makeVector, after, resync}
+use Rattle.aka.specs.Demand3.{Setting, Step, Each, Holds, Premise, Conclusion, Demand3, n, failure, renewal, stepsOf, steps, OtherNotAccepted}
+use Rattle.aka.proofs.Places.{within}
+use Rattle.aka.proofs.Tokens.{sqnOctets}
+use Rattle.aka.proofs.Failures.{autsOf, auts-is-long, auts-is-right, auts-has}
+use Rattle.aka.proofs.Verdicts.{valid-parts, sized-true, verdict-sized, sync-answer}
+use Rattle.aka.proofs.Batches.{count-le, length-rand, batch-vector}
+use Rattle.aka.proofs.Outcomes.{start-bounds, valid-iff, resync-sent}
+use Rattle.aka.proofs.Rising.{Rising, Counted, all-calls}
+
+-- ---- each step
+
+each-map : {P Q : Step → Type 0} → ((s : Step) → P s → Q s) → (l : List Step) → Each P l → Each Q l
+each-map f [] h = tt
+each-map f (s ∷ l) h = (f s (h .0), each-map f l (h .1))
+
+-- ---- the theorem
+
+module _ (w : ℕ) (hw : w ≤ 48) (family : Family) (lawful : Lawful family) (s : Setting) (p : Premise w family s) where
+  abbrev F : Functions
+  F = family .under (s .usim .keys)
+
+  abbrev N : ℕ
+  N = n w family s
+
+  abbrev ms : ℕ
+  ms = seqMs (s .usim)
+
+  abbrev st : ℕ
+  st = startOf (s .auc .seqhe) ms N
+
+  L : Lengths F
+  L = lawful .lengths (s .usim .keys) (valid-parts w family (s .usim) (p .usim-valid) .0) (p .usim-keys)
+
+  -- the same keys, the same functions
+  L′ : Lengths (family .under (s .auc .keys))
+  L′ = subst (λ k. Lengths (family .under k)) (sym (p .same-keys)) L
+
+  rand-size : length (s .rand) ≡ randSize
+  rand-size = sized-true (s .rand) (s .autn) (verdict-sized w family (s .usim) (s .rand) (s .autn) syncFailure (λ number e. let z : _≡_ {A = ℕ} 0 1 = cc in omega arith) (p .failed)) .0
+
+  abbrev auts : Octets
+  auts = autsOf w hw family (s .usim) L (p .usim-valid) (p .usim-places) (s .rand) rand-size
+
+  failure-is : failure w family s ≡ unchanged syncFailure (s .usim) auts
+  failure-is = sync-answer w family (s .usim) (s .rand) (s .autn) (p .failed)
+
+  -- the AuC finds SEQ_MS and a right MAC-S
+  same : family .under (s .auc .keys) ≡ F
+  same = ap (family .under) (p .same-keys)
+
+  right : macSRight (family .under (s .auc .keys)) (s .rand) auts ≡ true
+  right = ap (λ G. macSRight G (s .rand) auts) same ∙ auts-is-right w hw family (s .usim) L (p .usim-valid) (p .usim-places) (s .rand) rand-size
+
+  has : seqMsIn w (family .under (s .auc .keys)) (s .rand) auts ≡ ms
+  has = ap (λ G. seqMsIn w G (s .rand) auts) same ∙ auts-has w hw family (s .usim) L (p .usim-valid) (p .usim-places) (s .rand) rand-size
+
+  bounds : (ms ≤ st) × (st + N ≤ ms + D) × (st + N ≤ limit w)
+  bounds = start-bounds (s .auc .seqhe) ms N (limit w) (omega (arith, count-le (s .count) (p .count))) (p .room-ms) (p .room-he)
+
+  -- so it sends the batch counted from `st`
+  renewal-is : renewal w family s ≡ record {
+    outcome = cond (inRange (s .auc .seqhe) ms N) kept reset;
+    auc = after w (s .auc) st N;
+    batch = batchFrom w family (s .auc) st (s .rands) N;
+  }
+  renewal-is =
+      ap (λ (a : UsimAnswer). resync w family (s .auc) (s .count) (s .rands) (s .buffer) (s .rand) (a .auts)) failure-is
+      ∙ resync-sent w family (s .auc) (s .count) (s .rands) (s .buffer) (p .auc-valid) (p .count) (p .rands) (p .buffer) (p .unequal-rands) (s .rand) auts rand-size
+      (auts-is-long w hw family (s .usim) L (p .usim-valid) (p .usim-places) (s .rand) rand-size)
+      (rw (right, has) (or-true (inRange (s .auc .seqhe) ms N))) (rw has (bounds .2))
+      ∙ rw has
+
+  abbrev batch : Octets
+  batch = renewal w family s .batch
+
+  vectors : (k : ℕ) → k < N → vectorAt batch k ≡ makeVector F (sqnOctets w (seqAt st k) (indAt (s .auc) k)) (s .auc .amf) (randAt (s .rands) k)
+  vectors k h =
+      ap (λ (a : AucAnswer). vectorAt (a .batch) k) renewal-is
+      ∙ batch-vector w family (s .auc) L′ (p .auc-amf) st (s .rands) N (p .rands) k h
+      ∙ ap (λ G. makeVector G (sqnOctets w (seqAt st k) (indAt (s .auc) k)) (s .auc .amf) (randAt (s .rands) k)) same
+
+  rising : Rising w family (s .usim) batch N (s .auc .amf) (seqAt st) (indAt (s .auc)) (randAt (s .rands))
+  rising = record {
+    width = hw;
+    known = valid-parts w family (s .usim) (p .usim-valid) .0;
+    amf-size = p .auc-amf;
+    rand-size = length-rand (s .rands) N (p .rands);
+    index = λ k h. valid-iff w family (s .auc) .0 (p .auc-valid) .2;
+    above = λ k h. omega (arith, bounds);
+    rising = λ j k h g. omega arith;
+    near = λ k h. omega (arith, bounds);
+    within = λ k h. omega (arith, bounds);
+    vectors = vectors;
+  }
+
+  -- SEQ_HE is ahead of SEQ_MS by the vectors that follow
+  holds : (x : Step) → Counted w F batch N (seqAt st) x → Holds w F batch N (renewal w family s .auc .seqhe) x
+  holds x c = record {
+    taken = c .taken;
+    ahead = λ k e. ap (λ (a : AucAnswer). a .auc .seqhe) renewal-is ∙ omega (arith, c .inside k e, c .number k e);
+  }
+
+  kept-or-reset : (b : Bool) → (cond b kept reset ≡ kept) ⊎ (cond b kept reset ≡ reset)
+  kept-or-reset true = inl refl
+  kept-or-reset false = inr refl
+
+  conclusion : Conclusion w family s
+  conclusion = record {
+    sent = subst (λ (a : AucAnswer). (a .outcome ≡ kept) ⊎ (a .outcome ≡ reset)) (sym renewal-is) (kept-or-reset (inRange (s .auc .seqhe) ms N));
+    all = λ calls others. each-map holds (stepsOf w family s calls)
+        (subst (λ (u : Usim). Each OtherNotAccepted (steps w family batch N u none calls) → Each (Counted w F batch N (seqAt st)) (steps w family batch N u none calls))
+        (sym (ap (λ (a : UsimAnswer). a .usim) failure-is))
+        (all-calls w family (s .usim) L batch N (s .auc .amf) (seqAt st) (indAt (s .auc)) (randAt (s .rands)) rising (p .usim-places) (valid-parts w family (s .usim) (p .usim-valid) .1) calls)
+        others);
+  }
+
+pub demand3 : Demand3
+demand3 = conclusion

@@ -1,0 +1,17 @@
+pub mod Layouts
+pub mod Sequence
+pub mod Places
+pub mod Tokens
+pub mod Verdicts
+pub mod Failures
+pub mod Pairs
+pub mod Steps
+pub mod Batches
+pub mod Outcomes
+pub mod UsimLaws
+pub mod AucLaws
+pub mod Rising
+pub mod Demand3
+pub mod Table
+pub mod TestSet
+pub mod Witnesses

@@ -1,0 +1,126 @@
+-- Laws of the places of a USIM: the highest, the lowest index that holds it, one place replaced. Assumes nothing.
+use Prim.Native.Nat.{ℕ, zero, suc, _^_, _≤_, _<_}
+use mathlib.Core.Bool.{Bool, true, false, _&&_, cond, and-eq-true-iff}
+use mathlib.Core.List.{List, [], _∷_}
+use mathlib.Core.Logic.{_↔_}
+use mathlib.Core.Path.{_≡_, refl, _∙_, subst}
+use native.Mathlib.Nat.{mod-lt}
+use native.Mathlib.Omega.{arith}
+use borrow.Author.Tests.{eqb-true, eqb-false, leb-true, leb-false, le-leb}
+use lib.Dec.{eqb, leb}
+use lib.ListN.{length, getD, set}
+use lib.Pow.{pow-pos}
+use Rattle.aka.specs.Sequence.{indices, limit, seqOf, indOf}
+use Rattle.aka.specs.Usim.{Usim, highest, lowestIndex, seqMs, sqnMs, allWithin}
+use Rattle.aka.specs.UsimLaws.{LowestIndex}
+use Rattle.aka.proofs.Sequence.{seq-sqn, ind-sqn, sqn-seq-ind, sqn-lt}
+
+pub place-le : (l : List ℕ) (i : ℕ) → getD l i 0 ≤ highest l
+unfolding highest
+place-le [] i = omega arith
+place-le (p ∷ l) zero = omega arith
+place-le (p ∷ l) (suc i) = omega (arith, place-le l i)
+
+pub highest-le : (most : ℕ) (l : List ℕ) → ((i : ℕ) → getD l i 0 ≤ most) → highest l ≤ most
+unfolding highest
+highest-le most [] h = omega arith
+highest-le most (p ∷ l) h = omega (arith, h 0, highest-le most l (λ i. h (suc i)))
+
+pub highest-set : (l : List ℕ) (i x : ℕ) → i < length l → highest l ≤ x → highest (set l i x) ≡ x
+unfolding highest
+highest-set [] i x h g = absurd (omega arith)
+highest-set (p ∷ l) zero x h g = omega arith
+highest-set (p ∷ l) (suc i) x h g = omega (arith, highest-set l i x (omega arith) (omega arith))
+
+-- ---- the lowest index
+
+-- i is a place of l that holds x, and no lower one does
+pub record Lowest (x : ℕ) (l : List ℕ) (i : ℕ) : Type 0 where
+  pub inside : i < length l
+  pub holds : getD l i 0 ≡ x
+  pub lowest : (j : ℕ) → j < i → getD l j 0 ≡ x → ⊥
+
+lowest-next : (x p : ℕ) (l : List ℕ) (i : ℕ) → (p ≡ x → ⊥) → Lowest x l i → Lowest x (p ∷ l) (suc i)
+lowest-next x p l i ne h = record {
+  inside = omega (arith, h .inside);
+  holds = h .holds;
+  lowest = before;
+}
+  where
+    before : (j : ℕ) → j < suc i → getD (p ∷ l) j 0 ≡ x → ⊥
+    before zero g e = ne e
+    before (suc j) g e = h .lowest j (omega arith) e
+
+-- where some place holds x, `lowestIndex` is the lowest that does
+pub lowest-index : (x : ℕ) (l : List ℕ) (i : ℕ) → i < length l → getD l i 0 ≡ x → Lowest x l (lowestIndex x l)
+unfolding lowestIndex
+lowest-index x [] i h e = absurd (omega arith)
+lowest-index x (p ∷ l) zero h e = go (eqb p x) refl
+  where
+    go : (b : Bool) → eqb p x ≡ b → Lowest x (p ∷ l) (cond b 0 (suc (lowestIndex x l)))
+    go true q = record { inside = omega arith; holds = e; lowest = λ j g. absurd (omega arith) }
+    go false q = absurd (eqb-false p x q e)
+lowest-index x (p ∷ l) (suc i) h e = go (eqb p x) refl (lowest-index x l i (omega arith) e)
+  where
+    go : (b : Bool) → eqb p x ≡ b → Lowest x l (lowestIndex x l) → Lowest x (p ∷ l) (cond b 0 (suc (lowestIndex x l)))
+    go true q ih = record { inside = omega arith; holds = eqb-true p x q; lowest = λ j g. absurd (omega arith) }
+    go false q ih = lowest-next x p l (lowestIndex x l) (eqb-false p x q) ih
+
+-- some place holds the highest
+pub highest-held : (l : List ℕ) → 0 < length l → (i : ℕ) × (i < length l) × (getD l i 0 ≡ highest l)
+unfolding highest
+highest-held [] h = absurd (omega arith)
+highest-held (p ∷ []) h = (0, omega arith, omega arith)
+highest-held (p ∷ q ∷ l) h = go (leb (highest (q ∷ l)) p) refl (highest-held (q ∷ l) (omega arith))
+  where
+    go : (b : Bool) → leb (highest (q ∷ l)) p ≡ b
+        → (i : ℕ) × (i < length (q ∷ l)) × (getD (q ∷ l) i 0 ≡ highest (q ∷ l))
+        → (i : ℕ) × (i < length (p ∷ q ∷ l)) × (getD (p ∷ q ∷ l) i 0 ≡ highest (p ∷ q ∷ l))
+    go true e ih = (0, omega arith, omega (arith, leb-true (highest (q ∷ l)) p e))
+    go false e ih = (suc (ih .0), omega (arith, ih .1), ih .2 ∙ omega (arith, leb-false (highest (q ∷ l)) p e))
+
+-- and the lowest that does
+pub highest-lowest : (l : List ℕ) → 0 < length l → Lowest (highest l) l (lowestIndex (highest l) l)
+highest-lowest l h = let held = highest-held l h in lowest-index (highest l) l (held .0) (held .1) (held .2)
+
+-- ---- places within a limit
+
+pub within-iff : (most : ℕ) (l : List ℕ) → (allWithin most l ≡ true) ↔ ((i : ℕ) → getD l i 0 ≤ most)
+unfolding allWithin
+within-iff most [] = (λ e i. omega arith, λ h. refl)
+within-iff most (p ∷ l) = (from (within-iff most l .0), λ h. rw (le-leb p most (h 0), within-iff most l .1 (λ i. h (suc i))))
+  where
+    from : (allWithin most l ≡ true → (i : ℕ) → getD l i 0 ≤ most) → (leb p most && allWithin most l) ≡ true → (i : ℕ) → getD (p ∷ l) i 0 ≤ most
+    from ih e zero = leb-true p most (and-eq-true-iff (leb p most) (allWithin most l) .0 e .0)
+    from ih e (suc i) = ih (and-eq-true-iff (leb p most) (allWithin most l) .0 e .1) i
+
+pub within : (most : ℕ) (l : List ℕ) → allWithin most l ≡ true → highest l ≤ most
+within most l e = highest-le most l (within-iff most l .0 e)
+
+pub within-set : (most : ℕ) (l : List ℕ) (i x : ℕ) → x ≤ most → allWithin most l ≡ true → allWithin most (set l i x) ≡ true
+unfolding allWithin
+within-set most [] i x h e = e
+within-set most (p ∷ l) zero x h e = rw (le-leb x most h) (and-eq-true-iff (leb p most) (allWithin most l) .0 e .1)
+within-set most (p ∷ l) (suc i) x h e =
+    let both = and-eq-true-iff (leb p most) (allWithin most l) .0 e in
+    rw (both .0) (within-set most l i x h (both .1))
+
+-- ---- SQN_MS
+
+pub sqn-ms : (w : ℕ) (usim : Usim) → length (usim .places) ≡ indices w → LowestIndex w usim
+sqn-ms w usim size =
+    let low = highest-lowest (usim .places) (rw size (pow-pos w)) in
+    let ind : lowestIndex (seqMs usim) (usim .places) < indices w = rw size at (low .inside) in
+    let same = ind-sqn w (seqMs usim) (lowestIndex (seqMs usim) (usim .places)) ind in
+    record {
+      highest = place-le (usim .places);
+      seq = seq-sqn w (seqMs usim) (lowestIndex (seqMs usim) (usim .places)) ind;
+      holds = rw same (low .holds);
+      lowest = λ i h. low .lowest i (rw same at h);
+    }
+
+-- it is a number of 48 bits where SEQ_MS is within the limit
+pub sqn-ms-fits : (w : ℕ) → w ≤ 48 → (usim : Usim) → length (usim .places) ≡ indices w → seqMs usim ≤ limit w → sqnMs w usim < 256 ^ 6
+sqn-ms-fits w hw usim size h =
+    subst (λ (x : ℕ). x < 256 ^ 6) (sqn-seq-ind w (sqnMs w usim))
+    (sqn-lt w hw (seqOf w (sqnMs w usim)) (indOf w (sqnMs w usim)) (rw (sqn-ms w usim size .seq) h) (mod-lt (sqnMs w usim) (pow-pos w)))

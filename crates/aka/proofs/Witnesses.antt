@@ -1,0 +1,190 @@
+-- The theorems are not empty: settings that meet demand 3's premise, one kept and one reset; a list of calls, some of the batch and some not;
+-- a sample of the worked table; and the octets of document 01's sample run, computed from the definitions. Assumes nothing.
+use Prim.Native.Nat.{ℕ, _≤_}
+use mathlib.Core.Bool.{true}
+use mathlib.Core.List.{List, [], _∷_, _++_, map}
+use mathlib.Core.Option.{none, some}
+use mathlib.Core.Path.{_≡_, refl}
+use native.Mathlib.Omega.{arith}
+use lib.ListN.{replicate, set}
+use Rattle.octets.specs.Octets.{Octets, xor, part, equal, turnLeft, encode, digits, spelt}
+use Rattle.aka.specs.Layout.{vectorAt, writeAutn, readAutn, writeAuts, readAuts, writeVector, readVector, joined}
+use Rattle.aka.specs.Functions.{Keys, Shaped}
+use Rattle.aka.specs.Sequence.{sqnOf}
+use Rattle.aka.specs.Usim.{Usim, UsimAnswer, accepted, macFailure, syncFailure, refused, challenge, verdictOn, judgement, answerWith, validUsim, sized, macRight, fresh, highest, lowestIndex, allWithin, makeAuts}
+use Rattle.aka.specs.Auc.{unequal, kept, reset, validAuc, makeAutn, makeVector, batchFrom, pairWith, pairFrom, equalPair, lentFor, lentAll, unlessRefused, unlessPast, inRange, macSRight, resyncOutcome, resync}
+use Rattle.aka.specs.Auc as auc
+use Rattle.aka.specs.Demand3.{Setting, Call, Step, Each, OtherNotAccepted, Premise, Conclusion, carries, placeFrom, steps, stepsOf, failure, renewal}
+use Rattle.aka.specs.Table.{Sample, Proper, Table, new, used}
+use Rattle.aka.proofs.TestSet.{testSet, testSets, test-lawful}
+use Rattle.aka.proofs.Demand3.{demand3}
+use Rattle.aka.proofs.Table.{worked-table}
+
+-- K 000102..0f, OPc zero
+abbrev key : Octets
+key = 0 ∷ 1 ∷ 2 ∷ 3 ∷ 4 ∷ 5 ∷ 6 ∷ 7 ∷ 8 ∷ 9 ∷ 10 ∷ 11 ∷ 12 ∷ 13 ∷ 14 ∷ 15 ∷ []
+
+abbrev keys : Keys
+keys = record { set = 0; k = key; opc = replicate 16 0 }
+
+keys-shaped : Shaped keys
+keys-shaped = record { k = refl; opc = refl }
+
+-- RAND zero
+abbrev rand : Octets
+rand = replicate 16 0
+
+abbrev usimWith : (places : List ℕ) → Usim
+usimWith places = record { keys = keys; places = places }
+
+-- AUTN of SEQ and IND, with AMF 0001
+abbrev autnWith : (seq ind : ℕ) → Octets
+autnWith seq ind = makeAutn (testSet key) (encode 6 (sqnOf 5 seq ind)) (0 ∷ 1 ∷ []) rand
+
+-- ---- a USIM with SEQ_MS 10, an old challenge to it, and an AuC with this SEQ_HE
+
+abbrev lost : (seqhe : ℕ) → Setting
+lost seqhe = record {
+  usim = usimWith used;
+  rand = rand;
+  autn = autnWith 1 3;
+  auc = record { keys = keys; amf = 0 ∷ 1 ∷ []; seqhe = seqhe; next = 4 };
+  count = 2;
+  rands = replicate 16 1 ++ replicate 16 2;
+  buffer = replicate 144 0;
+}
+
+-- calls: the two vectors of the new batch in turn; between them the first once more, and an AUTN of no octets
+abbrev callOf : (k : ℕ) → Call
+callOf k = record { rand = vectorAt (renewal 5 testSets (lost 1) .batch) k .rand; autn = vectorAt (renewal 5 testSets (lost 1) .batch) k .autn }
+
+abbrev walk : List Step
+walk = stepsOf 5 testSets (lost 1) (callOf 0 ∷ callOf 0 ∷ record { rand = rand; autn = [] } ∷ callOf 1 ∷ [])
+
+-- ---- a sample of the worked table
+
+abbrev sample : Sample
+sample = record {
+  keys = keys;
+  amf = 0 ∷ 1 ∷ [];
+  rand = rand;
+  places100 = set new 7 100;
+  next = 31;
+  rands = replicate 16 1 ++ replicate 16 2 ++ replicate 16 3 ++ replicate 16 4 ++ replicate 16 5;
+  buffer = replicate 360 0;
+}
+
+-- ---- the sample run of document 01: SQN 000000000020 to a new USIM, and the same challenge again
+
+abbrev first : UsimAnswer
+first = challenge 5 testSets (usimWith new) rand (autnWith 1 0)
+
+abbrev again : UsimAnswer
+again = challenge 5 testSets (first .usim) rand (autnWith 1 0)
+
+-- ---- what computes
+
+pub record Computed : Type 0 where
+  pub autn : autnWith 1 0 ≡ 0x03 ∷ 0x04 ∷ 0x05 ∷ 0x06 ∷ 0x07 ∷ 0x28 ∷ 0x00 ∷ 0x01 ∷ 0x00 ∷ 0x01 ∷ 0x02 ∷ 0x03 ∷ 0x04 ∷ 0x25 ∷ 0x06 ∷ 0x06 ∷ []
+  pub res : first .res ≡ 0x00 ∷ 0x01 ∷ 0x02 ∷ 0x03 ∷ 0x04 ∷ 0x05 ∷ 0x06 ∷ 0x07 ∷ []
+  pub ck : first .ck ≡ 0x01 ∷ 0x02 ∷ 0x03 ∷ 0x04 ∷ 0x05 ∷ 0x06 ∷ 0x07 ∷ 0x08 ∷ 0x09 ∷ 0x0a ∷ 0x0b ∷ 0x0c ∷ 0x0d ∷ 0x0e ∷ 0x0f ∷ 0x00 ∷ []
+  pub ik : first .ik ≡ 0x02 ∷ 0x03 ∷ 0x04 ∷ 0x05 ∷ 0x06 ∷ 0x07 ∷ 0x08 ∷ 0x09 ∷ 0x0a ∷ 0x0b ∷ 0x0c ∷ 0x0d ∷ 0x0e ∷ 0x0f ∷ 0x00 ∷ 0x01 ∷ []
+  pub auts : again .auts ≡ 0x03 ∷ 0x04 ∷ 0x05 ∷ 0x06 ∷ 0x07 ∷ 0x28 ∷ 0x00 ∷ 0x01 ∷ 0x02 ∷ 0x03 ∷ 0x04 ∷ 0x25 ∷ 0x06 ∷ 0x07 ∷ []
+  -- each verdict occurs: accepted, synchronisation failure, and MAC failure where the MAC is zeros
+  pub is-accepted : first .verdict ≡ accepted
+  pub is-sync : again .verdict ≡ syncFailure
+  pub is-mac : challenge 5 testSets (usimWith used) rand (part 0 8 (autnWith 10 3) ++ replicate 8 0) .verdict ≡ macFailure
+  -- SEQ_HE 12 is kept, 1 is reset
+  pub usim-valid : validUsim 5 testSets (usimWith used) ≡ true
+  pub failed : (seqhe : ℕ) → failure 5 testSets (lost seqhe) .verdict ≡ syncFailure
+  pub unequal2 : equalPair (lost 1 .rands) 2 ≡ unequal
+  pub valid12 : validAuc 5 testSets (lost 12 .auc) ≡ true
+  pub kept12 : renewal 5 testSets (lost 12) .outcome ≡ kept
+  pub valid1 : validAuc 5 testSets (lost 1 .auc) ≡ true
+  pub reset1 : renewal 5 testSets (lost 1) .outcome ≡ reset
+  -- the calls
+  pub places : map (λ s. s .place) walk ≡ some 0 ∷ none ∷ none ∷ some 1 ∷ []
+  pub verdicts : map (λ s. s .answer .verdict) walk ≡ accepted ∷ syncFailure ∷ refused 3 ∷ accepted ∷ []
+  pub others : Each OtherNotAccepted walk
+  -- the sample
+  pub known : testSets .known 0 ≡ true
+  pub highest100 : highest (sample .places100) ≡ 100
+  pub unequal5 : equalPair (sample .rands) 5 ≡ unequal
+
+not-none : {k : ℕ} → some k ≡ none → ⊥
+not-none e = let z : _≡_ {A = ℕ} 0 1 = cc in omega arith
+
+not-sync : syncFailure ≡ accepted → ⊥
+not-sync e = let z : _≡_ {A = ℕ} 0 1 = cc in omega arith
+
+not-refused : refused 3 ≡ accepted → ⊥
+not-refused e = let z : _≡_ {A = ℕ} 0 1 = cc in omega arith
+
+pub computed : Computed
+unfolding testSets testSet challenge verdictOn judgement answerWith validUsim sized macRight fresh highest lowestIndex allWithin makeAuts makeAutn writeAutn readAutn writeAuts readAuts xor equal digits spelt pairFrom pairWith validAuc auc.answerWith lentFor lentAll unlessRefused unlessPast inRange macSRight resyncOutcome resync batchFrom makeVector writeVector readVector joined turnLeft steps placeFrom carries
+computed = record {
+  autn = refl;
+  res = refl;
+  ck = refl;
+  ik = refl;
+  auts = refl;
+  is-accepted = refl;
+  is-sync = refl;
+  is-mac = refl;
+  usim-valid = refl;
+  failed = λ seqhe. refl;
+  unequal2 = refl;
+  valid12 = refl;
+  kept12 = refl;
+  valid1 = refl;
+  reset1 = refl;
+  places = refl;
+  verdicts = refl;
+  others = (λ e v. not-none e, (λ e v. not-sync v, (λ e v. not-refused v, (λ e v. not-none e, tt))));
+  known = refl;
+  highest100 = refl;
+  unequal5 = refl;
+}
+
+-- ---- so the premises are met
+
+premise : (seqhe : ℕ) → validAuc 5 testSets (lost seqhe .auc) ≡ true → seqhe ≤ 12 → Premise 5 testSets (lost seqhe)
+unfolding highest
+premise seqhe valid small = record {
+  usim-valid = computed .usim-valid;
+  usim-places = refl;
+  usim-keys = keys-shaped;
+  auc-valid = valid;
+  auc-amf = refl;
+  same-keys = refl;
+  count = omega arith;
+  rands = refl;
+  buffer = refl;
+  unequal-rands = computed .unequal2;
+  room-ms = omega arith;
+  room-he = omega arith;
+  failed = computed .failed seqhe;
+}
+
+pub kept-here : Conclusion 5 testSets (lost 12)
+kept-here = demand3 5 (omega arith) testSets test-lawful (lost 12) (premise 12 (computed .valid12) (omega arith))
+
+pub reset-here : Conclusion 5 testSets (lost 1)
+reset-here = demand3 5 (omega arith) testSets test-lawful (lost 1) (premise 1 (computed .valid1) (omega arith))
+
+proper : Proper testSets sample
+proper = record {
+  known = computed .known;
+  keys = keys-shaped;
+  amf = refl;
+  rand = refl;
+  places100-size = refl;
+  places100-highest = computed .highest100;
+  next = omega arith;
+  rands = refl;
+  buffer = refl;
+  unequal-rands = computed .unequal5;
+}
+
+pub table-here : Table testSets sample
+table-here = worked-table testSets test-lawful sample proper

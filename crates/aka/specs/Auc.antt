@@ -1,0 +1,215 @@
+-- The authentication centre, AuC (document 01: centre): its record, and its whole answers to an order and to a resynchronisation.
+-- TS 33.102 §6.3.2 and §6.3.5; document 01, 'What the centre does' and 'Refusal numbers'. Assumes nothing.
+use Prim.Native.Nat.{ℕ, zero, suc, _+_, _*_, _%_}
+use mathlib.Core.Bool.{Bool, _&&_, not, cond}
+use lib.Dec.{eqb, ltb, leb}
+use lib.ListN.{length}
+use Rattle.octets.specs.Octets.{Octets, xor, equal, encode, decode}
+use Rattle.aka.specs.Layout.{Vector, randSize, sqnSize, autsSize, vectorSize, mostVectors, randAt, writeAutn, writeVector, readAuts, joined}
+use Rattle.aka.specs.Functions.{Keys, Functions, Family, dummyAmf}
+use Rattle.aka.specs.Sequence.{D, indices, limit, sqnOf, seqOf}
+
+pub record Auc : Type 0 where
+  pub keys : Keys
+  pub amf : Octets
+  pub seqhe : ℕ  -- SEQ_HE
+  pub next : ℕ  -- the next index
+
+abbrev pub newAuc : Keys → (amf : Octets) → Auc
+newAuc keys amf = record { keys = keys; amf = amf; seqhe = 0; next = 0 }
+
+-- ---- one vector, of SQN in octets, AMF and RAND
+
+-- AUTN: SQN xor AK, AMF, MAC = f1 of SQN, RAND, AMF
+unfoldable pub makeAutn : Functions → (sqn amf rand : Octets) → Octets
+makeAutn F sqn amf rand = writeAutn (record { concealed = xor sqn (F .f5 rand); amf = amf; mac = F .f1 sqn rand amf })
+
+unfoldable pub makeVector : Functions → (sqn amf rand : Octets) → Vector
+makeVector F sqn amf rand = record {
+  rand = rand;
+  xres = F .f2 rand;
+  ck = F .f3 rand;
+  ik = F .f4 rand;
+  autn = makeAutn F sqn amf rand;
+}
+
+-- ---- a batch: n vectors whose SEQ are counted from `start`, places from 0
+
+-- a count of 0 means the default, 5
+abbrev pub countOf : (count : ℕ) → ℕ
+countOf count = cond (eqb count 0) 5 count
+
+-- SEQ goes up by 1 for each vector
+abbrev pub seqAt : (start k : ℕ) → ℕ
+seqAt start k = start + 1 + k
+
+-- all vectors of a batch carry the next index
+abbrev pub indAt : Auc → (k : ℕ) → ℕ
+indAt auc k = auc .next
+
+-- SEQ_HE becomes the last SEQ; the next index goes up by 1, after the last index to 0
+abbrev pub after : (w : ℕ) → Auc → (start n : ℕ) → Auc
+after w auc start n = record { keys = auc .keys; amf = auc .amf; seqhe = start + n; next = (auc .next + 1) % indices w }
+
+-- ---- the earliest pair of equal RANDs (document 01: of equal challenges)
+
+pub data Pair : Type 0 where
+  unequal : Pair
+  equalAt : (first second : ℕ) → Pair
+
+abbrev pub orElse : Pair → Pair → Pair
+orElse unequal other = other
+orElse (equalAt i j) other = equalAt i j
+
+-- among the second places j, j + 1, .. (`left` of them) the smallest that makes a pair with i
+unfoldable pub pairWith : (rands : Octets) (i j left : ℕ) → Pair
+pairWith rands i j zero = unequal
+pairWith rands i j (suc left) = cond (equal (randAt rands i) (randAt rands j)) (equalAt i j) (pairWith rands i (j + 1) left)
+
+-- among the first places i, i + 1, .. (`left` of them, the last ones) the smallest that has a pair
+unfoldable pub pairFrom : (rands : Octets) (i left : ℕ) → Pair
+pairFrom rands i zero = unequal
+pairFrom rands i (suc left) = orElse (pairWith rands i (i + 1) left) (pairFrom rands (i + 1) left)
+
+abbrev pub equalPair : (rands : Octets) (n : ℕ) → Pair
+equalPair rands n = pairFrom rands 0 n
+
+-- ---- what AUTS says
+
+-- SQN_MS = (SQN_MS xor AK*) xor AK*, in octets
+abbrev pub sqnMsIn : Functions → (rand auts : Octets) → Octets
+sqnMsIn F rand auts = xor (readAuts auts .concealed) (F .f5* rand)
+
+abbrev pub seqMsIn : (w : ℕ) → Functions → (rand auts : Octets) → ℕ
+seqMsIn w F rand auts = seqOf w (decode (sqnMsIn F rand auts))
+
+-- XMAC-S = f1* of SQN_MS, RAND and an AMF of two zero octets is AUTS's MAC-S
+unfoldable pub macSRight : Functions → (rand auts : Octets) → Bool
+macSRight F rand auts = equal (readAuts auts .mac) (F .f1* (sqnMsIn F rand auts) rand dummyAmf)
+
+-- SEQ_HE is at least SEQ_MS, and SEQ_HE + n is at most SEQ_MS + D
+unfoldable pub inRange : (seqhe seqms n : ℕ) → Bool
+inRange seqhe seqms n = leb seqms seqhe && leb (seqhe + n) (seqms + D)
+
+-- in range SEQ_HE is kept; otherwise it first becomes SEQ_MS
+abbrev pub startOf : (seqhe seqms n : ℕ) → ℕ
+startOf seqhe seqms n = cond (inRange seqhe seqms n) seqhe seqms
+
+-- ---- the answer
+
+pub data Outcome : Type 0 where
+  -- a batch: of an order; of a resynchronisation that kept SEQ_HE, or reset it
+  given kept reset : Outcome
+  refused : (number : ℕ) → Outcome
+  -- refusal 4, with the earliest pair
+  repeated : (first second : ℕ) → Outcome
+
+-- document 01's refusal number, 0 for none
+abbrev pub refusalOf : Outcome → ℕ
+refusalOf given = 0
+refusalOf kept = 0
+refusalOf reset = 0
+refusalOf (refused number) = number
+refusalOf (repeated i j) = 4
+
+-- and its pair, zero save in 4
+abbrev pub firstOf : Outcome → ℕ
+firstOf given = 0
+firstOf kept = 0
+firstOf reset = 0
+firstOf (refused number) = 0
+firstOf (repeated i j) = i
+
+abbrev pub secondOf : Outcome → ℕ
+secondOf given = 0
+secondOf kept = 0
+secondOf reset = 0
+secondOf (refused number) = 0
+secondOf (repeated i j) = j
+
+pub record AucAnswer : Type 0 where
+  pub outcome : Outcome
+  pub auc : Auc  -- the next record
+  pub batch : Octets  -- what the buffer lent for the batch holds at the end
+
+-- refusal 4 applies where there is a pair
+abbrev pub unlessRepeated : Pair → (rest : Outcome) → Outcome
+unlessRepeated unequal rest = rest
+unlessRepeated (equalAt i j) rest = repeated i j
+
+-- 16n octets of RANDs and 72n octets to fill
+unfoldable pub lentFor : (n : ℕ) (rands buffer : Octets) → Bool
+lentFor n rands buffer = eqb (length rands) (randSize * n) && eqb (length buffer) (vectorSize * n)
+
+-- and besides, RAND and AUTS of theirs
+unfoldable pub lentAll : (n : ℕ) (rands buffer rand auts : Octets) → Bool
+lentAll n rands buffer rand auts = lentFor n rands buffer && eqb (length rand) randSize && eqb (length auts) autsSize
+
+module _ (w : ℕ) (family : Family) (auc : Auc) where
+  -- the functions of this subscriber
+  abbrev F : Functions
+  F = family .under (auc .keys)
+
+  -- a valid record: refusal 1 does not apply to it
+  unfoldable pub validAuc : Bool
+  validAuc = family .known (auc .keys .set) && leb (auc .seqhe) (limit w) && ltb (auc .next) (indices w)
+
+  -- the vector at place k
+  abbrev pub vectorFrom : (start : ℕ) (rands : Octets) (k : ℕ) → Vector
+  vectorFrom start rands k = makeVector F (encode sqnSize (sqnOf w (seqAt start k) (indAt auc k))) (auc .amf) (randAt rands k)
+
+  unfoldable pub batchFrom : (start : ℕ) (rands : Octets) (n : ℕ) → Octets
+  batchFrom start rands n = joined (λ k. writeVector (vectorFrom start rands k)) n
+
+  -- refusals 1 to 4, which order and resynchronisation share; n is the count that results, `lent`: each lent part has the length named
+  unfoldable pub unlessRefused : (count n : ℕ) (lent : Bool) (rands : Octets) (rest : Outcome) → Outcome
+  unlessRefused count n lent rands rest =
+      cond (not validAuc) (refused 1)
+      (cond (ltb mostVectors count) (refused 2)
+      (cond (not lent) (refused 3)
+      (unlessRepeated (equalPair rands n)
+      rest)))
+
+  -- refusal 6: the last SEQ would pass the limit
+  unfoldable pub unlessPast : (start n : ℕ) (rest : Outcome) → Outcome
+  unlessPast start n rest = cond (ltb (limit w) (start + n)) (refused 6) rest
+
+  -- what goes with each outcome: next record and batch, or record and buffer as they were
+  unfoldable pub answerWith : (start : ℕ) (rands : Octets) (n : ℕ) (buffer : Octets) → Outcome → AucAnswer
+  answerWith start rands n buffer given = record { outcome = given; auc = after w auc start n; batch = batchFrom start rands n }
+  answerWith start rands n buffer kept = record { outcome = kept; auc = after w auc start n; batch = batchFrom start rands n }
+  answerWith start rands n buffer reset = record { outcome = reset; auc = after w auc start n; batch = batchFrom start rands n }
+  answerWith start rands n buffer (refused number) = record { outcome = refused number; auc = auc; batch = buffer }
+  answerWith start rands n buffer (repeated i j) = record { outcome = repeated i j; auc = auc; batch = buffer }
+
+  -- a count, that many RANDs, and a buffer for the batch
+  module _ (count : ℕ) (rands buffer : Octets) where
+    abbrev n : ℕ
+    n = countOf count
+
+    unfoldable pub orderOutcome : Outcome
+    orderOutcome =
+        unlessRefused count n (lentFor n rands buffer) rands
+        (unlessPast (auc .seqhe) n
+        given)
+
+    -- the AuC's whole answer to an order
+    unfoldable pub order : AucAnswer
+    order = answerWith (auc .seqhe) rands n buffer orderOutcome
+
+    -- with RAND and AUTS of a synchronisation failure
+    module _ (rand auts : Octets) where
+      -- SEQ_MS
+      abbrev ms : ℕ
+      ms = seqMsIn w F rand auts
+
+      unfoldable pub resyncOutcome : Outcome
+      resyncOutcome =
+          unlessRefused count n (lentAll n rands buffer rand auts) rands
+          (cond (not (inRange (auc .seqhe) ms n) && not (macSRight F rand auts)) (refused 5)
+          (unlessPast (startOf (auc .seqhe) ms n) n
+          (cond (inRange (auc .seqhe) ms n) kept reset)))
+
+      -- the AuC's whole answer to a resynchronisation
+      unfoldable pub resync : AucAnswer
+      resync = answerWith (startOf (auc .seqhe) ms n) rands n buffer resyncOutcome

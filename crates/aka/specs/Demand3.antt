@@ -1,0 +1,159 @@
+-- Demand 3: after a synchronisation failure and the resynchronisation that it leads to, the USIM accepts the new batch.
+-- Document 01, 'Demand 3 in exact words': its sentences stand beside the definitions. Assumes nothing.
+use Prim.Native.Nat.{ℕ, zero, suc, _+_, _-_, _*_, _≤_}
+use mathlib.Core.Bool.{Bool, true, _&&_, cond}
+use mathlib.Core.List.{List, [], _∷_}
+use mathlib.Core.Logic.{_⊎_}
+use mathlib.Core.Option.{Option, none, some}
+use mathlib.Core.Path.{_≡_}
+use lib.ListN.{length}
+use Rattle.octets.specs.Octets.{Octets, equal}
+use Rattle.aka.specs.Layout.{Vector, randSize, amfSize, vectorSize, mostVectors, vectorAt}
+use Rattle.aka.specs.Functions.{Functions, Family, Shaped, Lawful}
+use Rattle.aka.specs.Sequence.{indices, limit}
+use Rattle.aka.specs.Usim.{Usim, UsimAnswer, accepted, syncFailure, challenge, validUsim, sized, seqMs, seqIn}
+use Rattle.aka.specs.Auc.{Auc, AucAnswer, unequal, kept, reset, validAuc, resync, countOf, equalPair}
+
+-- a USIM and a challenge to it; an AuC, and what is lent to its resynchronisation
+pub record Setting : Type 0 where
+  pub usim : Usim
+  pub rand : Octets
+  pub autn : Octets
+  pub auc : Auc
+  pub count : ℕ
+  pub rands : Octets
+  pub buffer : Octets
+
+-- a call of the USIM, with a RAND and AUTN of any octets
+pub record Call : Type 0 where
+  pub rand : Octets
+  pub autn : Octets
+
+-- a call that has been answered
+pub record Step : Type 0 where
+  -- the place of the vector with which it is counted as of the batch; none for every other call
+  pub place : Option ℕ
+  -- the last place counted, up to this call and with it
+  pub last : Option ℕ
+  pub answer : UsimAnswer
+
+-- P is true of each step of a list
+abbrev pub Each : (Step → Type 0) → List Step → Type 0
+Each P [] = Unit {0}
+Each P (s ∷ rest) = P s × Each P rest
+
+-- ---- which calls are of the batch
+
+-- refusal 3 does not apply to the call, and its RAND and AUTN are those of the vector at place k
+unfoldable pub carries : (batch : Octets) → Call → (k : ℕ) → Bool
+carries batch call k =
+    sized (call .rand) (call .autn)
+    && equal (call .rand) (vectorAt batch k .rand)
+    && equal (call .autn) (vectorAt batch k .autn)
+
+-- the first among the places k, k + 1, .. (`left` of them) whose vector the call carries
+unfoldable pub placeFrom : (batch : Octets) → Call → (k left : ℕ) → Option ℕ
+placeFrom batch call k zero = none
+placeFrom batch call k (suc left) = cond (carries batch call k) (some k) (placeFrom batch call (suc k) left)
+
+-- where the later places begin, after the last one counted
+abbrev pub later : Option ℕ → ℕ
+later none = 0
+later (some k) = suc k
+
+-- 'a vector at a later place than any so counted before it'
+abbrev pub placeOf : (batch : Octets) (n : ℕ) (last : Option ℕ) → Call → Option ℕ
+placeOf batch n last call = placeFrom batch call (later last) (n - later last)
+
+abbrev pub latest : (place last : Option ℕ) → Option ℕ
+latest none last = last
+latest (some k) last = some k
+
+-- the SEQ of a vector, read from its own octets
+abbrev pub vectorSeq : (w : ℕ) → Functions → Vector → ℕ
+vectorSeq w F v = seqIn w F (v .rand) (v .autn)
+
+-- ---- the list of calls
+
+module _ (w : ℕ) (family : Family) (batch : Octets) (n : ℕ) where
+  abbrev pub step : Usim → (last : Option ℕ) → Call → Step
+  step usim last call = record {
+    place = placeOf batch n last call;
+    last = latest (placeOf batch n last call) last;
+    answer = challenge w family usim (call .rand) (call .autn);
+  }
+
+  -- each call gets the record that the one before returned
+  unfoldable pub steps : Usim → (last : Option ℕ) → List Call → List Step
+  steps usim last [] = []
+  steps usim last (call ∷ rest) =
+      step usim last call ∷ steps (step usim last call .answer .usim) (step usim last call .last) rest
+
+-- 'Every other call is one that the card does not accept'
+abbrev pub OtherNotAccepted : Step → Type 0
+OtherNotAccepted s = s .place ≡ none → s .answer .verdict ≡ accepted → ⊥
+
+-- what holds of each step, however the batch was numbered; `F` are the functions of the subscriber
+pub record Taken (w : ℕ) (F : Functions) (batch : Octets) (s : Step) : Type 0 where
+  -- a call of the batch is accepted, with RES, CK and IK equal to its vector's XRES, CK and IK
+  pub verdict : (k : ℕ) → s .place ≡ some k → s .answer .verdict ≡ accepted
+  pub res : (k : ℕ) → s .place ≡ some k → s .answer .res ≡ vectorAt batch k .xres
+  pub ck : (k : ℕ) → s .place ≡ some k → s .answer .ck ≡ vectorAt batch k .ck
+  pub ik : (k : ℕ) → s .place ≡ some k → s .answer .ik ≡ vectorAt batch k .ik
+  -- from the call with the vector at place k until the next call of the batch, SEQ_MS is that vector's SEQ
+  pub seq : (k : ℕ) → s .last ≡ some k → seqMs (s .answer .usim) ≡ vectorSeq w F (vectorAt batch k)
+
+-- and besides, of a batch that is counted up, the SEQ_HE that the resynchronisation returned is SEQ_MS + n - 1 - k
+pub record Holds (w : ℕ) (F : Functions) (batch : Octets) (n seqhe : ℕ) (s : Step) : Type 0 where
+  pub taken : Taken w F batch s
+  pub ahead : (k : ℕ) → s .last ≡ some k → seqhe ≡ seqMs (s .answer .usim) + n - 1 - k
+
+-- ---- the statement
+
+module _ (w : ℕ) (family : Family) (s : Setting) where
+  -- the count that results
+  abbrev pub n : ℕ
+  n = countOf (s .count)
+
+  -- the USIM's answer to the challenge
+  abbrev pub failure : UsimAnswer
+  failure = challenge w family (s .usim) (s .rand) (s .autn)
+
+  -- the AuC's answer to its AUTS
+  abbrev pub renewal : AucAnswer
+  renewal = resync w family (s .auc) (s .count) (s .rands) (s .buffer) (s .rand) (failure .auts)
+
+  pub record Premise : Type 0 where
+    -- valid records, whose places, K, OPc and AMF have their sizes (the code's types see to that)
+    pub usim-valid : validUsim w family (s .usim) ≡ true
+    pub usim-places : length (s .usim .places) ≡ indices w
+    pub usim-keys : Shaped (s .usim .keys)
+    pub auc-valid : validAuc w family (s .auc) ≡ true
+    pub auc-amf : length (s .auc .amf) ≡ amfSize
+    -- the same set, K and OPc
+    pub same-keys : s .auc .keys ≡ s .usim .keys
+    -- count, lent parts and RANDs are as named: refusals 2, 3 and 4 do not apply
+    pub count : s .count ≤ mostVectors
+    pub rands : length (s .rands) ≡ randSize * n
+    pub buffer : length (s .buffer) ≡ vectorSize * n
+    pub unequal-rands : equalPair (s .rands) n ≡ unequal
+    -- room: SEQ_MS + n and SEQ_HE + n are within SEQ's limit
+    pub room-ms : seqMs (s .usim) + n ≤ limit w
+    pub room-he : s .auc .seqhe + n ≤ limit w
+    -- the USIM answers with synchronisation failure
+    pub failed : failure .verdict ≡ syncFailure
+
+  -- the list starts from the record that the synchronisation failure left
+  abbrev pub stepsOf : List Call → List Step
+  stepsOf calls = steps w family (renewal .batch) n (failure .usim) none calls
+
+  pub record Conclusion : Type 0 where
+    -- the AuC sends a batch
+    pub sent : (renewal .outcome ≡ kept) ⊎ (renewal .outcome ≡ reset)
+    -- 'For every such list'
+    pub all : (calls : List Call) → Each OtherNotAccepted (stepsOf calls)
+        → Each (Holds w (family .under (s .usim .keys)) (renewal .batch) n (renewal .auc .seqhe)) (stepsOf calls)
+
+-- for every width of the index, every lawful family, and every setting that meets the premise
+abbrev pub Demand3 : Type 0
+Demand3 = (w : ℕ) → w ≤ 48 → (family : Family) → Lawful family → (s : Setting) → Premise w family s → Conclusion w family s

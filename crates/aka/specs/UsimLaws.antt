@@ -1,0 +1,103 @@
+-- What the USIM's answer promises, sentence by sentence of document 01, 'What the card does'. These laws rule out its 'Slips that look right',
+-- and the cards that it shuts out by name. Assumes nothing.
+use Prim.Native.Nat.{ℕ, _+_, _≤_, _<_}
+use mathlib.Core.Bool.{true, false}
+use mathlib.Core.Logic.{_↔_}
+use mathlib.Core.Path.{_≡_}
+use lib.ListN.{length, getD}
+use Rattle.octets.specs.Octets.{Octets, Below, zeros}
+use Rattle.aka.specs.Layout.{randSize, autnSize, autsSize}
+use Rattle.aka.specs.Functions.{Keys, Functions, Family, Shaped, Lawful}
+use Rattle.aka.specs.Sequence.{D, indices, limit, seqOf, indOf}
+use Rattle.aka.specs.Usim.{Usim, UsimAnswer, newUsim, accepted, macFailure, syncFailure, refused, challenge, unchanged, validUsim, seqIn, indIn, macRight, seqMs, sqnMs}
+
+-- ---- one challenge, of any octets
+
+module _ (w : ℕ) (family : Family) (usim : Usim) (rand autn : Octets) where
+  abbrev F : Functions
+  F = family .under (usim .keys)
+
+  abbrev answer : UsimAnswer
+  answer = challenge w family usim rand autn
+
+  abbrev seq : ℕ
+  seq = seqIn w F rand autn
+
+  abbrev ind : ℕ
+  ind = indIn w F rand autn
+
+  -- RAND and AUTN have the lengths named
+  pub record Named : Type 0 where
+    pub rand-size : length rand ≡ randSize
+    pub autn-size : length autn ≡ autnSize
+
+  -- no refusal applies
+  pub record Asked : Type 0 where
+    pub valid : validUsim w family usim ≡ true
+    pub named : Named
+
+  -- freshness in numbers: SEQ is above the place at IND, and at most SEQ_MS + D
+  abbrev pub Fresh : Type 0
+  Fresh = (getD (usim .places) ind 0 < seq) × (seq ≤ seqMs usim + D)
+
+  -- the next record has SEQ at that one place
+  pub record OnePlace : Type 0 where
+    pub keys : answer .usim .keys ≡ usim .keys
+    pub size : length (answer .usim .places) ≡ length (usim .places)
+    pub place : ind < length (usim .places) → getD (answer .usim .places) ind 0 ≡ seq
+    pub others : (i : ℕ) → (i ≡ ind → ⊥) → getD (answer .usim .places) i 0 ≡ getD (usim .places) i 0
+
+  pub record UsimLaws : Type 0 where
+    -- 'The lowest number that applies is given, and only when it applies.'
+    pub refusal1 : validUsim w family usim ≡ false → answer .verdict ≡ refused 1
+    pub refusal3 : validUsim w family usim ≡ true → (Named → ⊥) → answer .verdict ≡ refused 3
+    pub answered : Asked → (number : ℕ) → answer .verdict ≡ refused number → ⊥
+    -- 'First MAC: if it differs, MAC failure.'
+    pub mac-wrong : Asked → macRight F rand autn ≡ false → answer .verdict ≡ macFailure
+    -- 'Then freshness. If not, synchronisation failure with AUTS. Otherwise accepted'
+    pub not-fresh : Asked → macRight F rand autn ≡ true → (Fresh → ⊥) → answer .verdict ≡ syncFailure
+    pub fresh : Asked → macRight F rand autn ≡ true → Fresh → answer .verdict ≡ accepted
+    -- 'that one place becomes SEQ, and RES, CK, IK are given'
+    pub stored : answer .verdict ≡ accepted → OnePlace
+    pub res : answer .verdict ≡ accepted → answer .res ≡ F .f2 rand
+    pub ck : answer .verdict ≡ accepted → answer .ck ≡ F .f3 rand
+    pub ik : answer .verdict ≡ accepted → answer .ik ≡ F .f4 rand
+    -- 'Other verdicts change nothing and give no keys.'
+    pub not-accepted : (answer .verdict ≡ accepted → ⊥) → answer ≡ unchanged (answer .verdict) usim (answer .auts)
+    -- 'answer bytes not named for a case are zero, AUTS too'
+    pub no-auts : (answer .verdict ≡ syncFailure → ⊥) → answer .auts ≡ zeros autsSize
+
+-- ---- SQN_MS
+
+-- 'SEQ_MS is the highest place; SQN_MS is SEQ_MS with the lowest index that holds it.'
+pub record LowestIndex (w : ℕ) (usim : Usim) : Type 0 where
+  pub highest : (i : ℕ) → getD (usim .places) i 0 ≤ seqMs usim
+  pub seq : seqOf w (sqnMs w usim) ≡ seqMs usim
+  pub holds : getD (usim .places) (indOf w (sqnMs w usim)) 0 ≡ seqMs usim
+  pub lowest : (i : ℕ) → i < indOf w (sqnMs w usim) → getD (usim .places) i 0 ≡ seqMs usim → ⊥
+
+-- ---- two USIMs
+
+pub record SameAnswer (a b : UsimAnswer) : Type 0 where
+  pub verdict : a .verdict ≡ b .verdict
+  pub res : a .res ≡ b .res
+  pub ck : a .ck ≡ b .ck
+  pub ik : a .ik ≡ b .ik
+  pub auts : a .auts ≡ b .auts
+
+pub record UsimPromise (w : ℕ) (family : Family) : Type 0 where
+  pub laws : (usim : Usim) (rand autn : Octets) → UsimLaws w family usim rand autn
+  pub sqn-ms : (usim : Usim) → length (usim .places) ≡ indices w → LowestIndex w usim
+  -- 'Two valid cards alike in set, K and OPc but unlike in their places give one challenge of wrong MAC the same verdict and bytes.'
+  pub alike : (usim usim′ : Usim) (rand autn : Octets) → validUsim w family usim ≡ true → validUsim w family usim′ ≡ true
+      → usim .keys ≡ usim′ .keys → macRight (family .under (usim .keys)) rand autn ≡ false
+      → SameAnswer (challenge w family usim rand autn) (challenge w family usim′ rand autn)
+  -- refusal 1: 'unknown set, SEQ past its range'
+  pub valid : (usim : Usim)
+      → (validUsim w family usim ≡ true) ↔ ((family .known (usim .keys .set) ≡ true) × ((i : ℕ) → getD (usim .places) i 0 ≤ limit w))
+  -- a new record has SEQ_MS 0 and is valid, and a valid record is followed by a valid record
+  pub new-seq : (keys : Keys) → seqMs (newUsim w keys) ≡ 0
+  pub new-valid : (keys : Keys) → family .known (keys .set) ≡ true → validUsim w family (newUsim w keys) ≡ true
+  pub stays-valid : w ≤ 48 → Lawful family → (usim : Usim) (rand autn : Octets) → Shaped (usim .keys)
+      → Below 256 (usim .keys .k) → Below 256 (usim .keys .opc) → Below 256 rand → Below 256 autn
+      → validUsim w family usim ≡ true → validUsim w family (challenge w family usim rand autn .usim) ≡ true

@@ -1,0 +1,24 @@
+-- The protocol's theorems at the index width 5 and the sets of document 01. Assumes nothing.
+use native.Mathlib.Omega.{arith}
+use Rattle.aka.specs.Demand3.{Setting, Premise, Conclusion}
+use Rattle.aka.specs.Table.{Sample, Proper, Table}
+use Rattle.aka.specs.UsimLaws.{UsimPromise}
+use Rattle.aka.specs.AucLaws.{AucPromise}
+use Rattle.aka.proofs.Demand3.{demand3}
+use Rattle.aka.proofs.Table.{worked-table}
+use Rattle.aka.proofs.UsimLaws.{usim-promise}
+use Rattle.aka.proofs.AucLaws.{auc-promise}
+use Rattle.functions.specs.Sets.{sets}
+use Rattle.functions.proofs.Family.{lawful}
+
+pub demand3-holds : (s : Setting) → Premise 5 sets s → Conclusion 5 sets s
+demand3-holds = demand3 5 (omega arith) sets lawful
+
+pub table-holds : (x : Sample) → Proper sets x → Table sets x
+table-holds = worked-table sets lawful
+
+pub usim-holds : UsimPromise 5 sets
+usim-holds = usim-promise 5 sets
+
+pub auc-holds : AucPromise 5 sets
+auc-holds = auc-promise 5 sets
