@@ -19,7 +19,7 @@ power-pos base (suc n) h = rw pow-suc (mul-pos (power-pos base n h) h)
 pub length-digits : (base n x : ℕ) → length (digits base n x) ≡ n
 unfolding digits
 length-digits base zero x = refl
-length-digits base (suc n) x = length-append (digits base n (x / base)) (x % base ∷ []) ∙ omega (arith, length-digits base n (x / base))
+length-digits base (suc n) x = length-append (digits base n (x / base)) _ ∙ omega (arith, length-digits base n (x / base))
 
 pub digits-below : (base n x : ℕ) → 0 < base → Below base (digits base n x)
 unfolding digits
