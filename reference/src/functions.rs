@@ -1,9 +1,10 @@
 //! The seven outputs of one subscriber, by the function set.
 
-use crate::block::Block;
+use crate::block::{xor, Block};
 use crate::milenage::Milenage;
 use crate::test_set::TestSet;
 
+#[derive(Clone, Debug, PartialEq, Eq)]
 pub struct Subscriber {
     pub set: u8,
     pub k: Block,
@@ -30,6 +31,16 @@ impl Subscriber {
             1 => Some(milenage(&Milenage::new(&self.k, &self.opc, rand), sqn, amf)),
             _ => None,
         }
+    }
+
+    /// SQN xor AK, AMF, MAC.
+    pub fn autn(&self, rand: &Block, sqn: &[u8; 6], amf: &[u8; 2]) -> Option<Block> {
+        let outputs = self.outputs(rand, sqn, amf)?;
+        let mut autn = [0; 16];
+        autn[0..6].copy_from_slice(&xor(sqn, &outputs.ak));
+        autn[6..8].copy_from_slice(amf);
+        autn[8..16].copy_from_slice(&outputs.mac);
+        Some(autn)
     }
 }
 

@@ -5,34 +5,42 @@ use std::collections::VecDeque;
 
 use crate::damage::{self, places, STRANGE};
 use crate::random::Random;
-use crate::{aes_vectors, function_vectors, published};
+use crate::{aes_vectors, calls, function_vectors, published};
+use crate::{call_lines, challenge_lines, form_lines, image_lines};
 
 /// The size of the pieces in which a program may read its input. Lines are
 /// laid across the boundaries between such pieces on purpose.
 pub const PIECE: usize = 65_536;
 
-/// The length of the longest line of digits.
+/// The length of the longest line.
 pub const LONG: usize = 70_000;
 
-/// What the lines of one program look like: those that have outputs, and those
-/// that are well formed, which may be refused.
+/// What the lines of one program look like: those that have outputs, all of
+/// one length, and those that are well formed, which may be refused; and the
+/// lines that try each edge of the rules. One line in `mixing` is a random one
+/// as long as there are edges left.
 struct Shape {
     seed: u64,
     length: usize,
+    mixing: usize,
     good: fn(&mut Random) -> Vec<u8>,
     well_formed: fn(&mut Random) -> Vec<u8>,
+    edges: fn(&Shape, &mut Random) -> Vec<Vec<u8>>,
 }
 
 const AES: Shape = Shape {
     seed: 197,
     length: 65,
+    mixing: 3,
     good: aes_line,
     well_formed: aes_line,
+    edges: edge_lines,
 };
 
 const FUNCTION: Shape = Shape {
     seed: 35_206,
     length: 118,
+    mixing: 3,
     good: |random| {
         let set = random.one_of(b"01");
         function_line(set, random)
@@ -43,6 +51,21 @@ const FUNCTION: Shape = Shape {
             _ => random.one_of(b"01"),
         };
         function_line(set, random)
+    },
+    edges: edge_lines,
+};
+
+const CALLS: Shape = Shape {
+    seed: 33_102,
+    length: call_lines::CHALLENGE_LENGTH,
+    mixing: 10,
+    good: call_lines::good,
+    well_formed: call_lines::well_formed,
+    edges: |_, random| {
+        let mut lines = challenge_lines::edges(random);
+        lines.extend(image_lines::edges(random));
+        lines.extend(form_lines::edges(random));
+        lines
     },
 };
 
@@ -59,13 +82,17 @@ fn function_line(set: u8, random: &mut Random) -> Vec<u8> {
 pub fn files() -> Vec<(&'static str, Vec<u8>)> {
     let aes = input(&AES, aes_published());
     let function = input(&FUNCTION, function_published());
+    let calls = calls_input();
     let aes_answers = aes_vectors::answers(&aes);
     let function_answers = function_vectors::answers(&function);
+    let calls_answers = calls::answers(&calls);
     vec![
         ("aes_vectors/stdin", aes),
         ("aes_vectors/stdout", aes_answers),
         ("function_vectors/stdin", function),
         ("function_vectors/stdout", function_answers),
+        ("calls/stdin", calls),
+        ("calls/stdout", calls_answers),
     ]
 }
 
@@ -109,6 +136,29 @@ fn input(shape: &Shape, published: Vec<String>) -> Vec<u8> {
     input.finish()
 }
 
+/// Calls are long: to leave room for them only one line takes a whole piece.
+fn calls_input() -> Vec<u8> {
+    let length = CALLS.length;
+    let mut input = Input::new(&CALLS);
+    for line in challenge_lines::published() {
+        input.push(&line);
+    }
+    // A good line with the boundary within a field.
+    input.fill_to(PIECE - 20);
+    input.push_good();
+    // The longest line takes the next boundary, and its rest behind the one
+    // after that looks good alone.
+    input.fill_to(3 * PIECE + length - LONG);
+    let two_ends = two_ends(&CALLS, LONG - length, &mut input.random);
+    input.push(&two_ends);
+    // Good lines whose newlines are the last byte of a piece and the first.
+    input.fill_to(4 * PIECE - length - 1);
+    input.push_good();
+    input.fill_to(5 * PIECE - length);
+    input.push_good();
+    input.finish()
+}
+
 /// The input as far as it is written, and the lines that are still to come.
 struct Input<'a> {
     shape: &'a Shape,
@@ -121,7 +171,7 @@ impl Input<'_> {
     fn new(shape: &Shape) -> Input<'_> {
         let mut random = Random::new(shape.seed);
         Input {
-            due: edge_lines(shape, &mut random),
+            due: (shape.edges)(shape, &mut random).into(),
             shape,
             random,
             bytes: Vec::new(),
@@ -140,7 +190,7 @@ impl Input<'_> {
 
     /// Most often one of the lines that are due, else a mixed one.
     fn next_line(&mut self) -> Vec<u8> {
-        if self.random.below(3) > 0 {
+        if self.random.below(self.shape.mixing) > 0 {
             if let Some(line) = self.due.pop_front() {
                 return line;
             }
@@ -195,14 +245,14 @@ fn two_ends(shape: &Shape, before: usize, random: &mut Random) -> Vec<u8> {
 }
 
 /// The lines that try each edge of the rules.
-fn edge_lines(shape: &Shape, random: &mut Random) -> VecDeque<Vec<u8>> {
+fn edge_lines(shape: &Shape, random: &mut Random) -> Vec<Vec<u8>> {
     let mut lines = Vec::new();
     lines.extend(every_byte(shape, random));
     lines.extend(strange_separators(shape, random));
     lines.extend(each_place(shape, random));
     lines.extend(each_damage(shape, random));
     lines.extend(each_length(shape, random));
-    lines.into()
+    lines
 }
 
 /// Every byte value that a line can hold, once at the first place, where

@@ -1,18 +1,25 @@
 //! The independent second program of Vetrhoss.
 //!
 //! It is written from FIPS 197, TS 35.206 and the project's own rules for the
-//! test set alone, in the plainest form, so that its answers can be compared
-//! with those of the proved implementation.
+//! test set and the card alone, in the plainest form, so that its answers can
+//! be compared with those of the proved implementation.
 
 pub mod aes;
 pub mod aes_vectors;
 pub mod block;
+pub mod call_lines;
+pub mod calls;
+pub mod challenge_lines;
 pub mod damage;
+pub mod form_lines;
 pub mod function_vectors;
 pub mod functions;
 pub mod generate;
+pub mod image;
+pub mod image_lines;
 pub mod milenage;
 pub mod published;
 pub mod random;
 pub mod test_set;
 pub mod text;
+pub mod usim;

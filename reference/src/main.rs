@@ -4,9 +4,9 @@ use std::io::{self, Read, Write};
 use std::path::Path;
 use std::process::ExitCode;
 
-use reference::{aes_vectors, function_vectors, generate};
+use reference::{aes_vectors, calls, function_vectors, generate};
 
-const USAGE: &str = "usage: reference aes-vectors | function-vectors | generate DIR";
+const USAGE: &str = "usage: reference aes-vectors | function-vectors | calls | generate DIR";
 
 fn main() -> ExitCode {
     let arguments: Vec<_> = std::env::args_os().skip(1).collect();
@@ -14,6 +14,7 @@ fn main() -> ExitCode {
     let done = match words[..] {
         [Some("aes-vectors")] => answer(aes_vectors::answers),
         [Some("function-vectors")] => answer(function_vectors::answers),
+        [Some("calls")] => answer(calls::answers),
         [Some("generate"), _] => write_files(Path::new(&arguments[1])),
         _ => {
             eprintln!("{USAGE}");

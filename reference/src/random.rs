@@ -1,5 +1,7 @@
 //! The splitmix64 generator: the same numbers for the same seed, everywhere.
 
+use crate::text::read_hex;
+
 pub struct Random {
     state: u64,
 }
@@ -41,5 +43,9 @@ impl Random {
             1 => vec![b'f'; count],
             _ => self.digits(count),
         }
+    }
+    /// The bytes of such a field.
+    pub fn bytes<const N: usize>(&mut self) -> [u8; N] {
+        read_hex(&self.field(2 * N)).expect("two digits for each byte")
     }
 }

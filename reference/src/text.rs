@@ -1,4 +1,4 @@
-//! Lines, fields and hex digits. All of it works on bytes, since the input may
+//! Lines, fields, hex digits and numbers. All of it works on bytes, since the input may
 //! hold any byte.
 
 pub const BAD_LINE: &[u8] = b"bad line";
@@ -39,16 +39,38 @@ fn hex_digit(digit: u8) -> Option<u8> {
     }
 }
 
+/// One byte from exactly two digits.
+fn hex_byte(digits: &[u8]) -> Option<u8> {
+    match digits {
+        &[high, low] => Some(hex_digit(high)? << 4 | hex_digit(low)?),
+        _ => None,
+    }
+}
+
 /// N bytes from exactly 2N lower-case hex digits.
 pub fn read_hex<const N: usize>(digits: &[u8]) -> Option<[u8; N]> {
-    if digits.len() != 2 * N {
+    let bytes: Option<Vec<u8>> = digits.chunks(2).map(hex_byte).collect();
+    bytes?.try_into().ok()
+}
+
+/// Bytes of any number. A field is never empty: `-` stands for no bytes.
+pub fn read_bytes(field: &[u8]) -> Option<Vec<u8>> {
+    match field {
+        b"" => None,
+        b"-" => Some(Vec::new()),
+        digits => digits.chunks(2).map(hex_byte).collect(),
+    }
+}
+
+/// A number below 2^64 from 1 to 20 decimal digits; leading zeros are taken.
+pub fn read_number(field: &[u8]) -> Option<u64> {
+    if field.is_empty() || field.len() > 20 {
         return None;
     }
-    let mut bytes = [0; N];
-    for (byte, pair) in bytes.iter_mut().zip(digits.chunks_exact(2)) {
-        *byte = hex_digit(pair[0])? << 4 | hex_digit(pair[1])?;
-    }
-    Some(bytes)
+    field.iter().try_fold(0u64, |number, digit| match digit {
+        b'0'..=b'9' => number.checked_mul(10)?.checked_add(u64::from(digit - b'0')),
+        _ => None,
+    })
 }
 
 /// Two lower-case hex digits for each byte.

@@ -37,6 +37,7 @@ fn generate_writes_the_files_and_the_commands_answer_them() {
     for (command, program) in [
         ("aes-vectors", "aes_vectors"),
         ("function-vectors", "function_vectors"),
+        ("calls", "calls"),
     ] {
         let input = std::fs::read(folder.join(program).join("stdin")).unwrap();
         let expected = std::fs::read(folder.join(program).join("stdout")).unwrap();
@@ -49,7 +50,7 @@ fn generate_writes_the_files_and_the_commands_answer_them() {
 
 #[test]
 fn an_empty_input_has_an_empty_answer() {
-    for command in ["aes-vectors", "function-vectors"] {
+    for command in ["aes-vectors", "function-vectors", "calls"] {
         let output = run(&[command], Vec::new());
         assert!(output.status.success());
         assert!(output.stdout.is_empty());
@@ -58,10 +59,11 @@ fn an_empty_input_has_an_empty_answer() {
 
 #[test]
 fn unknown_commands_exit_with_2() {
-    let commands: [&[&str]; 5] = [
+    let commands: [&[&str]; 6] = [
         &[],
         &["other"],
         &["aes-vectors", "more"],
+        &["calls", "more"],
         &["generate"],
         &["generate", "a", "b"],
     ];

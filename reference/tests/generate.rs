@@ -42,6 +42,8 @@ fn the_same_bytes_every_time() {
         "aes_vectors/stdout",
         "function_vectors/stdin",
         "function_vectors/stdout",
+        "calls/stdin",
+        "calls/stdout",
     ];
     assert_eq!(names, expected);
 }

@@ -1,6 +1,6 @@
-//! Lines, fields and hex digits at their edges.
+//! Lines, fields, hex digits and numbers at their edges.
 
-use reference::text::{answers, fields, lines, read_hex, write_hex};
+use reference::text::{answers, fields, lines, read_bytes, read_hex, read_number, write_hex};
 
 #[test]
 fn lines_end_at_newlines_or_at_the_end() {
@@ -67,4 +67,56 @@ fn the_number_of_digits_is_exact() {
     assert_eq!(read_hex::<2>(b"01020"), None);
     assert_eq!(read_hex::<2>(b"010203"), None);
     assert_eq!(read_hex::<2>(b""), None);
+}
+
+#[test]
+fn bytes_of_any_number_are_read() {
+    assert_eq!(read_bytes(b"-"), Some(vec![]));
+    assert_eq!(read_bytes(b"00"), Some(vec![0]));
+    assert_eq!(read_bytes(b"00ff7a"), Some(vec![0, 0xff, 0x7a]));
+    assert_eq!(read_bytes(&[b'a'; 4_000]), Some(vec![0xaa; 2_000]));
+    for field in [
+        "", "0", "000", "--", "-0", "0-", "00-", "-00", "0A", "0g", " 00",
+    ] {
+        assert_eq!(read_bytes(field.as_bytes()), None, "{field:?}");
+    }
+}
+
+#[test]
+fn numbers_of_1_to_20_digits_are_read() {
+    assert_eq!(read_number(b"0"), Some(0));
+    assert_eq!(read_number(b"007"), Some(7));
+    assert_eq!(read_number(b"1234567890"), Some(1_234_567_890));
+    assert_eq!(read_number(b"18446744073709551615"), Some(u64::MAX));
+    assert_eq!(read_number(b"00000000000000000000"), Some(0));
+    assert_eq!(
+        read_number(b"09999999999999999999").map(|n| n % 10),
+        Some(9)
+    );
+    for field in [
+        "",
+        "-",
+        "+1",
+        "-1",
+        " 1",
+        "1 ",
+        "1a",
+        "0x1",
+        "000000000000000000000",
+        "018446744073709551615",
+        "18446744073709551616",
+        "18446744073709551620",
+        "99999999999999999999",
+    ] {
+        assert_eq!(read_number(field.as_bytes()), None, "{field:?}");
+    }
+}
+
+#[test]
+fn only_decimal_digits_make_numbers() {
+    for byte in 0..=255u8 {
+        let good = byte.is_ascii_digit();
+        assert_eq!(read_number(&[byte]).is_some(), good);
+        assert_eq!(read_number(&[b'1', byte]).is_some(), good);
+    }
 }

@@ -1,0 +1,44 @@
+// The public calls, one a line: a word, then fields with one space between. docs/CALLS.md has the words.
+mod card;
+mod parts;
+
+use text::fields;
+
+// Puts the answer to a line into the output buffer, and returns how many bytes wait there.
+fn answer(line: &[u8], out: &mut [u8], used: usize) -> usize {
+    if 4096 < line.len() {
+        return console::put(out, used, b"bad line\n");
+    }
+    if fields::begins(line, b"challenge ") {
+        return card::challenge(line, out, used);
+    }
+    if fields::begins(line, b"card-read ") {
+        return card::read(line, out, used);
+    }
+    if fields::begins(line, b"card-write ") {
+        return card::write(line, out, used);
+    }
+    console::put(out, used, b"bad line\n")
+}
+
+// Answers every line of the input. A proved loop has to end, so this one counts its turns down, from a number that no run uses up.
+fn answer_all(piece: &mut [u8], line: &mut [u8], out: &mut [u8]) {
+    let mut input = console::start();
+    let mut turns = u64::MAX;
+    while turns > 0 {
+        input = console::next_line(piece, line, out, input);
+        if !input.ready {
+            return;
+        }
+        input.used = answer(console::front(line, input.held), out, input.used);
+        turns -= 1;
+    }
+}
+
+// A line is held up to one byte more than the longest that is answered, so that a longer one is seen to be longer.
+fn main() {
+    let mut piece = io::large_buffer();
+    let mut line = [0u8; 4097];
+    let mut out = io::large_buffer();
+    answer_all(&mut piece, &mut line, &mut out);
+}

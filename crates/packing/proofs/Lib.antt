@@ -1,0 +1,3 @@
+pub mod Repacked
+pub mod Digits
+pub mod Filling

@@ -1,0 +1,13 @@
+-- `authenticate` makes the round table, the key schedule and the start of a challenge once. Assumes nothing.
+use borrow.Author.Needs.{needs}
+use Rattle.usim.proofs.authenticate.Statement.{statement}
+use Rattle.usim.proofs.authenticate.Tie as tie
+
+returns : tie.Need-returns
+returns c = c .judge .ensures _ (c .before .before .before .start .ensures)
+
+pub authenticate-spec : {M : Type 1} → statement M
+authenticate-spec =
+    tie.close
+    (tie.spec
+    (λ c κs. search needs) (λ c κs. search needs) (λ c κs. search needs) (λ c κs. search needs) returns)

@@ -1,0 +1,36 @@
+-- `auts` is AUTS of SQN_MS, which fits since the USIM is valid. Assumes nothing.
+use mathlib.Core.Path.{_≡_, ap, ap₂, _∙_}
+use Rattle.octets.specs.Octets.{Octets, xor, encode}
+use Rattle.functions.specs.Sets.{sets}
+use Rattle.aka.specs.Functions.{dummyAmf}
+use Rattle.aka.specs.Layout.{writeAuts}
+use Rattle.aka.specs.Sequence.{limit}
+use Rattle.aka.specs.Usim.{sqnMs, makeAuts}
+use Rattle.aka.proofs.Places.{within}
+use Rattle.aka.proofs.Verdicts.{valid-parts}
+use Rattle.usim.specs.Views.{usimOf}
+use borrow.Author.Needs.{needs}
+use Rattle.usim.proofs.auts.Statement.{statement}
+use Rattle.usim.proofs.auts.Tie as tie
+
+sqn-ms-requires : tie.Need-sqn-ms-requires
+sqn-ms-requires c κs =
+    let usim = c .before .args .usim in
+    within (limit 5) (usim .places) (valid-parts 5 sets (usimOf usim) (c .before .pre .1) .1)
+
+returns : tie.Need-returns
+unfolding makeAuts
+returns c = λ keys rand s.
+    let made = c .before .before .before in
+    let usim = made .before .before .before .args .usim in
+    let sqn : made .sqn-octets .result ≡ encode 6 (sqnMs 5 (usimOf usim)) = made .sqn-octets .ensures ∙ ap (encode 6) (made .before .sqn-ms .ensures) in
+    c .auts .ensures
+    ∙ ap₂ (λ (x y : Octets). writeAuts (record { concealed = x; mac = y }))
+    (ap₂ xor sqn (c .before .before .ak-star .ensures keys rand s))
+    (c .before .f1s .ensures keys rand s ∙ ap (λ (x : Octets). sets .under keys .f1* x rand dummyAmf) sqn)
+
+pub auts-spec : {M : Type 1} → statement M
+auts-spec =
+    tie.close
+    (tie.spec
+    sqn-ms-requires (λ c κs. search needs) (λ c κs. search needs) (λ c κs. search needs) (λ c κs. search needs) returns)

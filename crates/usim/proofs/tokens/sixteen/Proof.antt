@@ -1,0 +1,19 @@
+-- `sixteen` has the octets lent. Assumes nothing.
+use Rattle.octets.proofs.Strings.{listed-all}
+use borrow.Author.Needs.{needs}
+use Rattle.usim.proofs.tokens.sixteen.Statement.{statement}
+use Rattle.usim.proofs.tokens.sixteen.Tie as tie
+
+returns : tie.Need-returns
+returns c =
+    let start = c .before .before .before .before .before .before .before .before .before .before .before .before .before .before .before .before in
+    listed-all (start .args .s .now) 16 (start .pre)
+
+pub sixteen-spec : {M : Type 1} → statement M
+sixteen-spec =
+    tie.close
+    (tie.spec
+    (λ c. search needs) (λ c. search needs) (λ c. search needs) (λ c. search needs) (λ c. search needs)
+    (λ c. search needs) (λ c. search needs) (λ c. search needs) (λ c. search needs) (λ c. search needs)
+    (λ c. search needs) (λ c. search needs) (λ c. search needs) (λ c. search needs) (λ c. search needs)
+    (λ c. search needs) returns)

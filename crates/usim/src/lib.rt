@@ -1,0 +1,189 @@
+// The USIM (document 01: card): its record, and its answer to a challenge.
+mod places;
+mod tokens;
+
+use functions::Challenge;
+use functions::Keys;
+ghost use mathlib.Core.Bool.{true};
+ghost use mathlib.Core.Path.{_≡_};
+ghost use Rattle.octets.specs.Octets.{Octets, encode};
+ghost use Rattle.aes_tables.specs.RoundTable.{IsRoundTable};
+ghost use Rattle.functions.specs.Challenge.{keysOf, Started};
+ghost use Rattle.functions.specs.Sets.{sets};
+ghost use Rattle.aka.specs.Functions.{Keys as KeysOf, dummyAmf};
+ghost use Rattle.aka.specs.Usim.{newUsim, validUsim, sqnMs, sqnIn, macRight, makeAuts, accepted, unchanged as unchangedOf, judgement, challenge as challengeOf};
+ghost use Rattle.usim.specs.Views.{usimOf, verdictOf, answerOf, sqnGiven, sqnDue};
+ghost use Rattle.usim.specs.Steps.{Authentic, Answers};
+
+// The thirty-two places of the card hold a SEQ for each index.
+pub struct Usim {
+    pub keys: Keys,
+    pub places: [u64; 32],
+}
+
+// An acceptance has its SQN, a refusal its number.
+pub enum Verdict {
+    Accepted(u64),
+    Sync,
+    Mac,
+    Refused(u8),
+}
+
+// `usim` is the next record. Octets that the verdict does not give are zero.
+pub struct Answer {
+    pub verdict: Verdict,
+    pub usim: Usim,
+    pub res: [u8; 8],
+    pub ck: [u8; 16],
+    pub ik: [u8; 16],
+    pub auts: [u8; 14],
+}
+
+// A new USIM: all places 0.
+pub fn new(keys: Keys) -> Usim
+    ensures { λ r. ⌜ usimOf r ≡ newUsim 5 (keysOf keys) ⌝ }
+{
+    Usim {
+        keys,
+        places: [0; 32],
+    }
+}
+
+// Whether refusal 1 does not apply.
+pub fn is_valid(usim: Usim) -> bool
+    ensures { λ r. ⌜ r ≡ validUsim 5 sets (usimOf usim) ⌝ }
+{
+    let keys = usim.keys;
+    let places = usim.places;
+    if !functions::is_known(keys.set) {
+        return false;
+    }
+    places::within(places)
+}
+
+// An answer that changes nothing and gives no keys.
+fn unchanged(verdict: Verdict, usim: Usim, auts: [u8; 14]) -> Answer
+    ensures { λ r. ⌜ (answerOf r ≡ unchangedOf (verdictOf verdict) (usimOf usim) auts) × (r .verdict ≡ verdict) ⌝ }
+{
+    Answer {
+        verdict,
+        usim,
+        res: [0; 8],
+        ck: [0; 16],
+        ik: [0; 16],
+        auts,
+    }
+}
+
+// Whether AUTN's MAC is f1 of SQN, RAND and AUTN's AMF.
+fn mac_right(t: &[u32; 256], w: &[u32; 44], c: Challenge, sqn: [u8; 6], autn: [u8; 16]) -> bool
+    requires { ⌜ IsRoundTable (now t) ⌝ }
+    ensures { λ r. ⌜ ((keys : KeysOf) (rand : Octets) → Started keys rand (now (w .entry)) c → sqn ≡ sqnIn (sets .under keys) rand autn → r ≡ macRight (sets .under keys) rand autn) ⌝ }
+{
+    let mac = octets::eight(autn, 8);
+    let expected = functions::f1(t, w, c, sqn, tokens::amf_in(autn));
+    tokens::same(mac, expected)
+}
+
+// AK*, which conceals SQN_MS: f5* of RAND. AK conceals the SQN of AUTN only.
+fn ak_star(t: &[u32; 256], w: &[u32; 44], c: Challenge) -> [u8; 6]
+    requires { ⌜ IsRoundTable (now t) ⌝ }
+    ensures { λ r. ⌜ ((keys : KeysOf) (rand : Octets) → Started keys rand (now (w .entry)) c → r ≡ sets .under keys .f5* rand) ⌝ }
+{
+    functions::f5s(t, w, c)
+}
+
+// AUTS of SQN_MS. The AMF of MAC-S is zero.
+fn auts(t: &[u32; 256], w: &[u32; 44], c: Challenge, usim: Usim) -> [u8; 14]
+    requires { ⌜ IsRoundTable (now t) × (validUsim 5 sets (usimOf usim) ≡ true) ⌝ }
+    ensures { λ r. ⌜ ((keys : KeysOf) (rand : Octets) → Started keys rand (now (w .entry)) c → r ≡ makeAuts (sets .under keys) (encode 6 (sqnMs 5 (usimOf usim))) dummyAmf rand) ⌝ }
+{
+    let places = usim.places;
+    let sqn = tokens::sqn_octets(places::sqn_ms(places));
+    let ak = ak_star(t, w, c);
+    let mac = functions::f1s(t, w, c, sqn, [0; 2]);
+    tokens::auts(sqn, ak, mac)
+}
+
+// The place at IND becomes SEQ, and the keys are given.
+fn accept(t: &[u32; 256], w: &[u32; 44], c: Challenge, usim: Usim, sqn: u64, res: [u8; 8]) -> Answer
+    requires { ⌜ IsRoundTable (now t) ⌝ }
+    ensures { λ r. ⌜ ((rand autn : Octets) → Authentic (keysOf (usim .keys)) rand autn (now (w .entry)) c sqn res → Answers (usimOf usim) rand autn accepted r) ⌝ }
+{
+    let ind = (sqn % 32) as usize;
+    let mut next = usim;
+    next.places[ind] = sqn / 32;
+    let ck = functions::f3(t, w, c);
+    let ik = functions::f4(t, w, c);
+    Answer {
+        verdict: Verdict::Accepted(sqn),
+        usim: next,
+        res,
+        ck,
+        ik,
+        auts: [0; 14],
+    }
+}
+
+// MAC is right: freshness decides.
+fn judge_sqn(
+    t: &[u32; 256],
+    w: &[u32; 44],
+    c: Challenge,
+    usim: Usim,
+    sqn: u64,
+    res: [u8; 8],
+) -> Answer
+    requires { ⌜ IsRoundTable (now t) × (validUsim 5 sets (usimOf usim) ≡ true) ⌝ }
+    ensures { λ r. ⌜ ((rand autn : Octets) → Authentic (keysOf (usim .keys)) rand autn (now (w .entry)) c sqn res → Answers (usimOf usim) rand autn (judgement 5 sets (usimOf usim) rand autn) r) ⌝ }
+{
+    let places = usim.places;
+    if !places::is_fresh(places, sqn / 32, (sqn % 32) as usize) {
+        return unchanged(Verdict::Sync, usim, auts(t, w, c, usim));
+    }
+    accept(t, w, c, usim, sqn, res)
+}
+
+// First MAC, then freshness.
+fn judge(t: &[u32; 256], w: &[u32; 44], c: Challenge, usim: Usim, autn: [u8; 16]) -> Answer
+    requires { ⌜ IsRoundTable (now t) × (validUsim 5 sets (usimOf usim) ≡ true) ⌝ }
+    ensures { λ r. ⌜ ((rand : Octets) → Started (keysOf (usim .keys)) rand (now (w .entry)) c → Answers (usimOf usim) rand autn (judgement 5 sets (usimOf usim) rand autn) r) ⌝ }
+{
+    let both = functions::f2_f5(t, w, c);
+    let res = both.res;
+    let ak = both.ak;
+    let sqn = tokens::sqn_in(autn, ak);
+    if !mac_right(t, w, c, sqn, autn) {
+        return unchanged(Verdict::Mac, usim, [0; 14]);
+    }
+    judge_sqn(t, w, c, usim, tokens::sqn_number(sqn), res)
+}
+
+// The answer of a valid USIM to a challenge of the lengths named.
+fn authenticate(usim: Usim, rand: [u8; 16], autn: [u8; 16]) -> Answer
+    requires { ⌜ validUsim 5 sets (usimOf usim) ≡ true ⌝ }
+    ensures { λ r. ⌜ Answers (usimOf usim) rand autn (judgement 5 sets (usimOf usim) rand autn) r ⌝ }
+{
+    let keys = usim.keys;
+    let t = aes::round_table();
+    let w = functions::schedule(keys);
+    let c = functions::start(&t, &w, keys, rand);
+    judge(&t, &w, c, usim, autn)
+}
+
+// The USIM's whole answer to a challenge of any octets.
+pub fn challenge(usim: Usim, rand: &[u8], autn: &[u8]) -> Answer
+    ensures answer { λ r. ⌜ answerOf r ≡ challengeOf 5 sets (usimOf usim) (now (rand .entry)) (now (autn .entry)) ⌝ }
+    ensures sqn { λ r. ⌜ sqnGiven (r .verdict) ≡ sqnDue (verdictOf (r .verdict)) (usimOf usim) (now (rand .entry)) (now (autn .entry)) ⌝ }
+{
+    if !is_valid(usim) {
+        return unchanged(Verdict::Refused(1), usim, [0; 14]);
+    }
+    if rand.len() != 16 {
+        return unchanged(Verdict::Refused(3), usim, [0; 14]);
+    }
+    if autn.len() != 16 {
+        return unchanged(Verdict::Refused(3), usim, [0; 14]);
+    }
+    authenticate(usim, tokens::sixteen(rand), tokens::sixteen(autn))
+}

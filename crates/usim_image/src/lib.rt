@@ -1,0 +1,163 @@
+// The packed image of a USIM (document 01: card), most significant bit first: edition and set in 4 bits each, K, OPc, and the places by
+// index.
+use functions::Keys;
+use usim::Usim;
+ghost use mathlib.Core.Bool.{true};
+ghost use mathlib.Core.List.{_++_};
+ghost use mathlib.Core.Path.{_≡_};
+ghost use Prim.Native.Nat.{_+_, _^_, _≤_};
+ghost use lib.ListN.{length, take};
+ghost use Rattle.octets.specs.Octets.{Below, decode, digits, encode, number};
+ghost use Rattle.functions.specs.Sets.{sets};
+ghost use Rattle.aka.specs.Layout.{keySize};
+ghost use Rattle.aka.specs.Sequence.{indices};
+ghost use Rattle.aka.specs.Usim.{validUsim};
+ghost use Rattle.usim.specs.Views.{usimOf};
+ghost use Rattle.usim_image.specs.Image.{image as imageOf, imageSize, placesAt, placesSize, readAnswer, readImage, seqBits, unread, writeAnswer};
+ghost use Rattle.usim_image.specs.Views.{readOf, writtenOf};
+
+const EDITION: u8 = 1;
+
+// Where K, OPc and the places begin.
+const K: usize = 1;
+
+const OPC: usize = K + 16;
+
+const PLACES: usize = OPC + 16;
+
+// The octets of the places.
+const PLACES_SIZE: usize = 172;
+
+// The octets of an image.
+pub const SIZE: usize = PLACES + PLACES_SIZE;
+
+// The bits of a place: a SEQ.
+const SEQ_BITS: u64 = 43;
+
+// `refusal` is 0 where the record was read; otherwise the record is zero.
+pub struct Answer {
+    pub refusal: u8,
+    pub usim: Usim,
+}
+
+// Puts K or OPc into an image, from `at` on. What stands before stays.
+fn put_key(image: &mut [u8], at: usize, key: [u8; 16])
+    requires { ⌜ at + keySize ≤ length (now image) ⌝ }
+    ensures { λ _. ⌜ take (at + keySize) (now (image .exit)) ≡ take at (now (image .entry)) ++ key ⌝ }
+{
+    bytes::copy(&key, &mut image[at..]);
+}
+
+// Puts the places into an image. What stands before stays.
+fn put_places(image: &mut [u8], places: [u64; 32])
+    requires size { ⌜ length (now image) ≡ imageSize 5 ⌝ }
+    requires below { ⌜ Below (2 ^ seqBits 5) places ⌝ }
+    ensures { λ _. ⌜ now (image .exit) ≡ take placesAt (now (image .entry)) ++ encode (placesSize 5) (number (2 ^ seqBits 5) places) ⌝ }
+{
+    let mut words = [0u64; PLACES_SIZE];
+    packing::repack(&places, SEQ_BITS, &mut words, 8);
+    packing::narrow(&words, &mut image[PLACES..]);
+}
+
+// Fills an image with a valid record.
+fn fill(usim: Usim, image: &mut [u8])
+    requires valid { ⌜ validUsim 5 sets (usimOf usim) ≡ true ⌝ }
+    requires size { ⌜ length (now image) ≡ imageSize 5 ⌝ }
+    ensures { λ _. ⌜ now (image .exit) ≡ imageOf 5 (usimOf usim) ⌝ }
+{
+    let keys = usim.keys;
+    let k = keys.k;
+    let opc = keys.opc;
+    let places = usim.places;
+    image[0] = 16 * EDITION + keys.set;
+    put_key(image, K, k);
+    put_key(image, OPC, opc);
+    put_places(image, places);
+}
+
+// Writes the image of `usim`: 0, or the refusal's number, and then the buffer is as it was.
+pub fn write(usim: Usim, buffer: &mut [u8]) -> u8
+    ensures { λ r. ⌜ writtenOf r (now (buffer .exit)) ≡ writeAnswer 5 sets (usimOf usim) (now (buffer .entry)) ⌝ }
+{
+    if !usim::is_valid(usim) {
+        return 1;
+    }
+    if buffer.len() != SIZE {
+        return 3;
+    }
+    fill(usim, buffer);
+    0
+}
+
+// The places of an image.
+fn unpack_places(octets: &[u8]) -> [u64; 32]
+    requires { ⌜ length (now octets) ≡ placesSize 5 ⌝ }
+    ensures { λ r. ⌜ r ≡ digits (2 ^ seqBits 5) (indices 5) (decode (now (octets .entry))) ⌝ }
+{
+    let mut words = [0u64; PLACES_SIZE];
+    packing::widen(octets, &mut words);
+    let mut places = [0u64; 32];
+    packing::repack(&words, 8, &mut places, SEQ_BITS);
+    places
+}
+
+// K or OPc of an image.
+fn sixteen(octets: &[u8]) -> [u8; 16]
+    requires { ⌜ length (now octets) ≡ keySize ⌝ }
+    ensures { λ r. ⌜ r ≡ now (octets .entry) ⌝ }
+{
+    let mut key = [0u8; 16];
+    bytes::copy(octets, &mut key);
+    key
+}
+
+// The record of an image.
+fn unpack(image: &[u8]) -> Usim
+    requires { ⌜ length (now image) ≡ imageSize 5 ⌝ }
+    ensures { λ r. ⌜ usimOf r ≡ readImage 5 (now (image .entry)) ⌝ }
+{
+    let keys = Keys {
+        set: image[0] % 16,
+        k: sixteen(&image[K..OPC]),
+        opc: sixteen(&image[OPC..PLACES]),
+    };
+    Usim {
+        keys,
+        places: unpack_places(&image[PLACES..]),
+    }
+}
+
+// The answer of a refused reading.
+fn refused(number: u8) -> Answer
+    ensures { λ r. ⌜ readOf r ≡ unread 5 number ⌝ }
+{
+    let keys = Keys {
+        set: 0,
+        k: [0; 16],
+        opc: [0; 16],
+    };
+    Answer {
+        refusal: number,
+        usim: usim::new(keys),
+    }
+}
+
+// Reads an image of any length and contents. A place of 43 bits is never past its range.
+pub fn read(image: &[u8]) -> Answer
+    ensures { λ r. ⌜ readOf r ≡ readAnswer 5 sets (now (image .entry)) ⌝ }
+{
+    if image.len() != SIZE {
+        return refused(3);
+    }
+    let head = image[0];
+    if head / 16 != EDITION {
+        return refused(1);
+    }
+    if !functions::is_known(head % 16) {
+        return refused(1);
+    }
+    Answer {
+        refusal: 0,
+        usim: unpack(image),
+    }
+}
