@@ -1,13 +1,19 @@
 -- Laws of parts of octet strings, and of strings that differ. Assumes nothing.
-use Prim.Native.Nat.{ℕ, _+_, _≤_}
+use Prim.Native.Nat.{ℕ, _+_, _≤_, _<_}
 use mathlib.Core.Bool.{Bool, true, false, true≢false}
-use mathlib.Core.List.{_++_}
+use mathlib.Core.List.{List, _∷_, _++_}
 use mathlib.Core.Path.{_≡_, refl, sym, _∙_}
+use native.Mathlib.Numerals.{add-one}
 use native.Mathlib.Omega.{arith}
-use lib.ListN.{length, drop, length-take, length-drop}
-use lib.Seq.{take-all, take-at, drop-at, drop-drop, take-add}
+use lib.ListN.{length, getD, drop, length-take, length-drop}
+use lib.Seq.{drop-cons, take-all, take-at, drop-at, drop-drop, take-add}
 use Rattle.octets.specs.Octets.{Octets, part, equal}
 use Rattle.octets.proofs.Strings.{equal-true, equal-self}
+
+-- ---- what is left of a list from a place on
+
+pub drop-next : (l : List ℕ) (i : ℕ) → i < length l → drop i l ≡ getD l i 0 ∷ drop (i + 1) l
+drop-next l i h = rw (add-one i) (drop-cons l i 0 h)
 
 -- ---- parts of two strings, one behind the other
 

@@ -10,7 +10,7 @@ use native.Mathlib.Omega.{arith}
 use borrow.Author.Tests.{ltb-false, ltb-true}
 use lib.Dec.{ltb}
 use lib.ListN.{drop, drop-of-length-le, getD, length, set, take}
-use lib.Seq.{drop-cons, length-take-le, paste, paste-suc, take-all, take-take}
+use lib.Seq.{length-take-le, paste, paste-suc, take-all, take-take}
 
 -- a number is below another, or not
 pub order : (m n : ℕ) → (m < n) ⊎ (n ≤ m)
@@ -19,10 +19,6 @@ order m n = go (ltb m n) refl
     go : (b : Bool) → ltb m n ≡ b → (m < n) ⊎ (n ≤ m)
     go true e = inl (ltb-true m n e)
     go false e = inr (ltb-false m n e)
-
--- the rest of a list from an index on begins with the element there
-pub drop-next : (l : List ℕ) (i : ℕ) → i < length l → drop i l ≡ getD l i 0 ∷ drop (i + 1) l
-drop-next l i h = rw (add-one i) (drop-cons l i 0 h)
 
 -- a store of the next element is a copy of one more
 pub paste-next : (d : List ℕ) (at : ℕ) (s : List ℕ) (j : ℕ) {l : List ℕ} {k v : ℕ} → l ≡ paste d at s j → k ≡ at + j → v ≡ getD s j 0

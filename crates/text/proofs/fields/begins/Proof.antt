@@ -9,7 +9,7 @@ use borrow.Author.Tests.{eq-eqb, ne-eqb}
 use lib.Dec.{eqb}
 use lib.ListN.{length, getD, drop, drop-of-length-le}
 use Rattle.text.specs.Fields.{begins}
-use Rattle.text.proofs.Walks.{drop-next}
+use Rattle.octets.proofs.Parts.{drop-next}
 use Rattle.text.proofs.fields.begins.Statement.{statement}
 use Rattle.text.proofs.fields.begins.Tie as tie
 

@@ -8,7 +8,7 @@ use borrow.Author.Needs.{needs}
 use borrow.Author.Tests.{eq-eqb, ne-eqb}
 use lib.ListN.{length, getD, drop, drop-of-length-le}
 use Rattle.text.specs.Fields.{space, field, endOf}
-use Rattle.text.proofs.Walks.{drop-next}
+use Rattle.octets.proofs.Parts.{drop-next}
 use Rattle.text.proofs.fields.field_end.Statement.{statement}
 use Rattle.text.proofs.fields.field_end.Tie as tie
 

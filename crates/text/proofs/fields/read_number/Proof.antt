@@ -10,7 +10,7 @@ use lib.Dec.{ltb, leb}
 use lib.ListN.{length, getD, drop, drop-of-length-le}
 use Rattle.octets.specs.Octets.{spelt}
 use Rattle.text.specs.Fields.{allDecimal, decimal, isDecimal}
-use Rattle.text.proofs.Walks.{drop-next}
+use Rattle.octets.proofs.Parts.{drop-next}
 use Rattle.text.proofs.fields.read_number.Statement.{statement}
 use Rattle.text.proofs.fields.read_number.Tie as tie
 

@@ -6,7 +6,7 @@ use lib.ListN.{length, drop, drop-of-length-le}
 use borrow.Author.Tests.{not-true, not-false}
 use Rattle.text.specs.Hex.{allDigits}
 use borrow.Author.Needs.{needs}
-use Rattle.text.proofs.Walks.{drop-next}
+use Rattle.octets.proofs.Parts.{drop-next}
 use Rattle.text.proofs.hex.all_digits.Statement.{statement}
 use Rattle.text.proofs.hex.all_digits.Tie as tie
 

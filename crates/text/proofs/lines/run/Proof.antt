@@ -6,7 +6,7 @@ use borrow.Author.Needs.{needs}
 use borrow.Author.Tests.{eq-eqb, ne-eqb}
 use lib.ListN.{drop, drop-of-length-le, length}
 use Rattle.text.specs.Lines.{upToNewline}
-use Rattle.text.proofs.Walks.{drop-next}
+use Rattle.octets.proofs.Parts.{drop-next}
 use Rattle.text.proofs.lines.run.Statement.{statement}
 use Rattle.text.proofs.lines.run.Tie as tie
 

@@ -4,7 +4,7 @@ use mathlib.Core.List.{List, []}
 use mathlib.Core.Path.{_≡_, sym, ap, _∙_}
 use native.Mathlib.Omega.{arith}
 use lib.ListN.{drop, drop-of-length-le}
-use Rattle.usim.proofs.Walks.{drop-next}
+use Rattle.octets.proofs.Parts.{drop-next}
 use mathlib.Core.Logic.{⊎-elim}
 use Rattle.aka.specs.Usim.{highest}
 use borrow.Author.Needs.{needs}

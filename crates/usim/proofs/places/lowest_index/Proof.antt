@@ -5,7 +5,7 @@ use native.Mathlib.Omega.{arith}
 use borrow.Author.Tests.{eq-eqb, ne-eqb}
 use lib.ListN.{drop, drop-of-length-le}
 use Rattle.aka.specs.Usim.{lowestIndex}
-use Rattle.usim.proofs.Walks.{drop-next}
+use Rattle.octets.proofs.Parts.{drop-next}
 use borrow.Author.Needs.{needs}
 use Rattle.usim.proofs.places.lowest_index.Statement.{statement}
 use Rattle.usim.proofs.places.lowest_index.Tie as tie

@@ -7,7 +7,7 @@ use borrow.Author.Tests.{le-leb, lt-leb}
 use lib.ListN.{drop, drop-of-length-le}
 use Rattle.aka.specs.Sequence.{limit}
 use Rattle.aka.specs.Usim.{allWithin}
-use Rattle.usim.proofs.Walks.{drop-next}
+use Rattle.octets.proofs.Parts.{drop-next}
 use Rattle.usim.proofs.places.within.Statement.{statement}
 use Rattle.usim.proofs.places.within.Tie as tie
 

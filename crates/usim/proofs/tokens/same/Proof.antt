@@ -6,7 +6,7 @@ use native.Mathlib.Omega.{arith}
 use lib.Dec.{eqb}
 use lib.ListN.{drop, drop-of-length-le}
 use Rattle.octets.specs.Octets.{equal}
-use Rattle.usim.proofs.Walks.{compare-next}
+use Rattle.usim.proofs.Comparing.{compare-next}
 use borrow.Author.Needs.{needs}
 use Rattle.usim.proofs.tokens.same.Statement.{statement}
 use Rattle.usim.proofs.tokens.same.Tie as tie

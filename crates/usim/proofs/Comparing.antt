@@ -1,20 +1,15 @@
--- A list from place i on, as a loop walks it, and one turn of comparing. Assumes nothing.
+-- One turn of comparing two strings, octet by octet, with no early end. Assumes nothing.
 use Prim.Native.Nat.{ℕ, _+_, _<_}
 use mathlib.Core.Bool.{Bool, true, false, _&&_, and-assoc}
-use mathlib.Core.List.{List, _∷_}
 use mathlib.Core.Path.{_≡_, refl, sym, ap, ap₂, _∙_}
-use native.Mathlib.Numerals.{add-one}
 use native.Mathlib.Omega.{arith}
 use borrow.Author.Tests.{eqb-true, eqb-false, eq-eqb, ne-eqb}
 use lib.Bits.{bitOr, bitXor, or-add-and, and-le-l, and-le-r, xor-zero-l, xor-self}
 use lib.Dec.{eqb}
 use lib.ListN.{length, getD, drop}
-use lib.Seq.{drop-cons}
 use Rattle.octets.specs.Octets.{Octets, equal}
+use Rattle.octets.proofs.Parts.{drop-next}
 use Rattle.octets.proofs.Xor.{bitXor-twice}
-
-pub drop-next : (l : List ℕ) (i : ℕ) → i < length l → drop i l ≡ getD l i 0 ∷ drop (i + 1) l
-drop-next l i h = rw (add-one i) (drop-cons l i 0 h)
 
 xor-zero : (a b : ℕ) → bitXor a b ≡ 0 → a ≡ b
 xor-zero a b e = sym (bitXor-twice a b) ∙ ap (λ (x : ℕ). bitXor x b) e ∙ xor-zero-l b
