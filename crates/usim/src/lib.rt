@@ -185,5 +185,5 @@ pub fn challenge(usim: Usim, rand: &[u8], autn: &[u8]) -> Answer
     if autn.len() != 16 {
         return unchanged(Verdict::Refused(3), usim, [0; 14]);
     }
-    authenticate(usim, tokens::sixteen(rand), tokens::sixteen(autn))
+    authenticate(usim, octets::sixteen(rand), octets::sixteen(autn))
 }

@@ -1,34 +1,8 @@
 // The octets of RAND, AUTN and AUTS, and the SQN in them.
 ghost use mathlib.Core.Path.{_≡_};
 ghost use Prim.Native.Nat.{_<_};
-ghost use lib.ListN.{length};
 ghost use Rattle.octets.specs.Octets.{xor, equal, encode, decode};
 ghost use Rattle.aka.specs.Layout.{readAutn, writeAuts};
-
-// 16 lent octets.
-pub(crate) fn sixteen(s: &[u8]) -> [u8; 16]
-    requires { ⌜ length (now s) ≡ 16 ⌝ }
-    ensures { λ r. ⌜ r ≡ now (s .entry) ⌝ }
-{
-    [
-        s[0],
-        s[1],
-        s[2],
-        s[3],
-        s[4],
-        s[5],
-        s[6],
-        s[7],
-        s[8],
-        s[9],
-        s[10],
-        s[11],
-        s[12],
-        s[13],
-        s[14],
-        s[15],
-    ]
-}
 
 // Whether two strings are the same. It looks at all octets whatever they are.
 pub(crate) fn same(x: [u8; 8], y: [u8; 8]) -> bool

@@ -10,10 +10,6 @@ use Rattle.octets.specs.Octets.{Octets, encode, number}
 use Rattle.aka.specs.Usim.{Usim}
 use Rattle.usim_image.specs.Image.{edition, seqBits, placesSize, image}
 
--- a copy over all of a list that is no longer
-pub copied : (x l : Octets) → length l ≤ length x → take (length x) x ++ drop (length x) l ≡ x
-copied x l h = rw (take-length x, drop-of-length-le l {i = length x} h) (append-nil x)
-
 -- a part copied in from `at` on, whatever stands behind it
 pub put-part : (l x rest behind : Octets) (at n : ℕ) → length x ≡ n → at ≤ length l
     → take (at + n) (take at l ++ ((take (length x) x ++ rest) ++ behind)) ≡ take at l ++ x

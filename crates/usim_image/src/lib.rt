@@ -101,16 +101,6 @@ fn unpack_places(octets: &[u8]) -> [u64; 32]
     places
 }
 
-// K or OPc of an image.
-fn sixteen(octets: &[u8]) -> [u8; 16]
-    requires { ⌜ length (now octets) ≡ keySize ⌝ }
-    ensures { λ r. ⌜ r ≡ now (octets .entry) ⌝ }
-{
-    let mut key = [0u8; 16];
-    bytes::copy(octets, &mut key);
-    key
-}
-
 // The record of an image.
 fn unpack(image: &[u8]) -> Usim
     requires { ⌜ length (now image) ≡ imageSize 5 ⌝ }
@@ -118,8 +108,8 @@ fn unpack(image: &[u8]) -> Usim
 {
     let keys = Keys {
         set: image[0] % 16,
-        k: sixteen(&image[K..OPC]),
-        opc: sixteen(&image[OPC..PLACES]),
+        k: octets::sixteen(&image[K..OPC]),
+        opc: octets::sixteen(&image[OPC..PLACES]),
     };
     Usim {
         keys,

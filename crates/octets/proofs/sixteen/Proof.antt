@@ -1,8 +1,8 @@
 -- `sixteen` has the octets lent. Assumes nothing.
 use Rattle.octets.proofs.Strings.{listed-all}
 use borrow.Author.Needs.{needs}
-use Rattle.usim.proofs.tokens.sixteen.Statement.{statement}
-use Rattle.usim.proofs.tokens.sixteen.Tie as tie
+use Rattle.octets.proofs.sixteen.Statement.{statement}
+use Rattle.octets.proofs.sixteen.Tie as tie
 
 returns : tie.Need-returns
 returns c =
