@@ -1,7 +1,7 @@
 -- A column of a round by the table, and a block by its columns. Assumes nothing.
-use Prim.Native.Nat.{ℕ, _%_}
-use mathlib.Core.List.{List, [], _∷_, _++_}
-use mathlib.Core.Path.{_≡_, refl, ap, ap₂, _∙_}
+use Prim.Native.Nat.{ℕ}
+use mathlib.Core.List.{_++_}
+use mathlib.Core.Path.{_≡_, ap, ap₂, _∙_}
 use lib.Bits.{bitXor}
 use Rattle.octets.specs.Octets.{Octets, xor, turnLeft, encode}
 use Rattle.octets.proofs.Numbers.{digits-xor}

@@ -1,12 +1,11 @@
 -- Words as four octets: turning, and the octets by shifts. Assumes nothing.
 use Prim.Native.Nat.{ℕ, zero, suc, _+_, _*_, _/_, _%_, _^_, _<_}
-use mathlib.Core.List.{List, [], _∷_, _++_}
-use mathlib.Core.Path.{_≡_, refl, sym, ap, ap₂, _∙_}
-use native.Mathlib.Nat.{mul-add-div-right, add-comm, mul-div-cancel, mul-mod-left, add-zero, div-lt-iff-lt-mul, div-eq-of-lt, mod-eq-of-lt}
+use mathlib.Core.List.{[], _∷_, _++_}
+use mathlib.Core.Path.{_≡_, sym, ap, ap₂, _∙_}
 use native.Mathlib.Omega.{arith}
-use lib.Arith.{mod-mul, digits-div}
-use lib.ListN.{length, take, drop}
-use lib.Pow.{pow-pos, pow-add, shr-shr}
+use lib.Arith.{digits-div}
+use lib.ListN.{length}
+use lib.Pow.{shr-shr}
 use lib.Seq.{take-at, drop-at}
 use Rattle.octets.specs.Octets.{Octets, turnLeft, Below, digits, spelt, encode}
 use Rattle.octets.proofs.Numbers.{length-digits, digits-split, digits-low, digits-number}

@@ -1,6 +1,6 @@
 -- The S-box's values are octets. Assumes nothing.
-use Prim.Native.Nat.{ℕ, _%_, _<_}
-use mathlib.Core.List.{List, [], _∷_}
+use Prim.Native.Nat.{ℕ, _<_}
+use mathlib.Core.List.{[], _∷_}
 use native.Mathlib.Omega.{arith}
 use Rattle.octets.proofs.Numbers.{number-lt}
 use Rattle.octets.proofs.Ranges.{below-map}

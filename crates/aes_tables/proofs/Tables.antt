@@ -1,4 +1,4 @@
--- The two constants of the code, as lists. Assumes nothing.
+-- The S-box of the code, as a list. Assumes nothing.
 use mathlib.Core.List.{List, [], _∷_}
 use Prim.Native.Nat.{ℕ}
 

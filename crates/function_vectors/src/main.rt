@@ -1,6 +1,5 @@
 // The functions f1 to f5* of vectors: each line of the standard input is `SET K OPC RAND SQN AMF`, one digit and then lower-case hex,
 // and its answer is `MAC MACS RES CK IK AK AKS`, `refused 1` for a set that is not known, or `bad line`.
-ghost use mathlib.Core.Path.{_≡_};
 ghost use Rattle.aes_tables.specs.RoundTable.{IsRoundTable};
 ghost use Rattle.functions.specs.Sets.{sets};
 ghost use Rattle.functions.specs.Challenge.{keysOf};

@@ -1,8 +1,8 @@
 -- The two sets are a lawful family: all that the protocol may use of them. Assumes nothing.
 use Prim.Native.Nat.{ℕ, _+_, _≤_}
 use mathlib.Core.Bool.{Bool, true, false, cond}
-use mathlib.Core.List.{List, _++_}
-use mathlib.Core.Path.{_≡_, refl, sym, ap, _∙_, subst}
+use mathlib.Core.List.{_++_}
+use mathlib.Core.Path.{_≡_, _∙_}
 use native.Mathlib.Omega.{arith}
 use lib.Dec.{eqb}
 use lib.ListN.{length, take, length-append}
@@ -14,7 +14,7 @@ use Rattle.octets.proofs.Ranges.{below-part, below-xor}
 use Rattle.aes.specs.KeyExpansion.{keyExpansion, aes}
 use Rattle.aes.proofs.Range.{length-cipher, cipher-below}
 use Rattle.milenage.specs.Milenage.{constant, in1, out1, out}
-use Rattle.aka.specs.Functions.{Keys, Functions, Family, Shaped, Lengths, Lawful}
+use Rattle.aka.specs.Functions.{Keys, Functions, Shaped, Lengths, Lawful}
 use Rattle.functions.specs.Sets.{testX, testSet, milenageT, milenageSet, sets}
 
 module _ (keys : Keys) (shape : Shaped keys) where

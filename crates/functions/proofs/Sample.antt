@@ -1,5 +1,5 @@
 -- Document 01's sample run: what set 0 gives for K 00 01 .. 0f and a RAND of zeros. Assumes nothing.
-use mathlib.Core.List.{List, [], _∷_, _++_}
+use mathlib.Core.List.{[], _∷_, _++_}
 use mathlib.Core.Path.{_≡_, refl}
 use Rattle.octets.specs.Octets.{Octets, zeros, xor, turnLeft, digits, encode}
 use Rattle.aka.specs.Functions.{Keys, Functions}

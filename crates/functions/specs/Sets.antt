@@ -1,7 +1,6 @@
 -- The function sets of document 01, 'The functions': set 0, the test set of the bench, and set 1, MILENAGE. Assumes nothing: these are definitions.
-use Prim.Native.Nat.{ℕ}
 use mathlib.Core.Bool.{cond}
-use mathlib.Core.List.{List, _++_}
+use mathlib.Core.List.{_++_}
 use lib.Dec.{eqb, leb}
 use lib.ListN.{take}
 use Rattle.octets.specs.Octets.{Octets, part, xor, turnLeft}

@@ -2,7 +2,7 @@
 use mathlib.Core.Path.{_≡_, refl, sym, ap, ap₂, _∙_}
 use mathlib.Core.Logic.{⊎-elim}
 use Prim.Native.Nat.{ℕ, zero, suc, _+_, _-_, _*_, _/_, _%_, _^_, _≤_, _<_}
-use native.Mathlib.Nat.{zero-mul, zero-add, zero-div, zero-mod, one-mul, mul-le-mul-right, pow-zero, pow-succ', div-one, div-div-eq-div-mul, eq-zero-or-pos, add-zero, add-suc, suc-add}
+use native.Mathlib.Nat.{zero-mul, zero-add, zero-div, one-mul, mul-le-mul-right, pow-succ', div-one, div-div-eq-div-mul, eq-zero-or-pos, add-zero, add-suc, suc-add}
 use native.Mathlib.Omega.{arith}
 use borrow.Author.Tests.{lt-ltb, le-ltb}
 use lib.Bits.{bitXor, xor-block, xor-zero-r}

@@ -1,6 +1,6 @@
 -- The field of 256 elements of FIPS 197, section 4: an octet is a polynomial over the field of two elements, its lowest coefficient in its
 -- lowest bit. Sums are `bitXor`; products are taken modulo m(x) = x^8 + x^4 + x^3 + x + 1. Assumes nothing: these are definitions.
-use Prim.Native.Nat.{ℕ, zero, suc, _+_, _*_, _/_, _%_, _^_}
+use Prim.Native.Nat.{ℕ, zero, suc, _*_, _/_, _%_, _^_}
 use mathlib.Core.Bool.{cond}
 use lib.Bits.{bitXor}
 use lib.Dec.{ltb}

@@ -1,7 +1,7 @@
 -- MILENAGE: 3GPP TS 35.206, section 4.1, in its letters. Rotations are whole octets: r1 to r5 are 64, 0, 32, 64 and 96 bits.
 -- Assumes nothing: these are definitions.
 use Prim.Native.Nat.{ℕ}
-use mathlib.Core.List.{List, [], _∷_, _++_}
+use mathlib.Core.List.{[], _∷_, _++_}
 use Rattle.octets.specs.Octets.{Octets, zeros, xor, turnLeft}
 
 -- c2 to c5: all zero but the last octet

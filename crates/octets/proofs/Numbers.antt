@@ -1,15 +1,15 @@
 -- Laws of numbers in digits, each over the base and the count of digits. Assumes nothing.
-use Prim.Native.Nat.{ℕ, zero, suc, _+_, _*_, _/_, _%_, _^_, _≤_, _<_}
+use Prim.Native.Nat.{ℕ, zero, suc, _+_, _*_, _/_, _%_, _^_, _<_}
 use mathlib.Core.List.{List, [], _∷_, _++_, append-assoc, append-nil}
 use mathlib.Core.Logic.{⊎-elim}
-use mathlib.Core.Path.{_≡_, refl, sym, ap, ap₂, _∙_, subst}
-use native.Mathlib.Nat.{add-mul, add-assoc, mul-assoc, mul-comm, zero-mul, zero-add, pow-zero, pow-suc, pow-succ', mod-one, mod-lt, mod-eq-of-lt, div-one, div-div-eq-div-mul, eq-or-lt-of-le, mul-pos, add-zero, add-suc, mul-add-div-right, mul-add-mod-self-right}
+use mathlib.Core.Path.{_≡_, refl, sym, ap, ap₂, _∙_}
+use native.Mathlib.Nat.{add-mul, add-assoc, mul-assoc, zero-mul, zero-add, pow-zero, pow-suc, pow-succ', mod-one, mod-lt, mod-eq-of-lt, div-one, div-div-eq-div-mul, eq-or-lt-of-le, mul-pos, add-zero, add-suc, mul-add-div-right, mul-add-mod-self-right}
 use native.Mathlib.Omega.{arith}
 use lib.Arith.{digits-div, digits-mod, digits-lt, mod-mul}
 use lib.Bits.{bitXor, xor-shr, xor-mod}
 use lib.ListN.{length, getD, length-append, List·getD-append}
 use lib.Seq.{getD-at}
-use Rattle.octets.specs.Octets.{Octets, xor, Below, digits, spelt, number}
+use Rattle.octets.specs.Octets.{xor, Below, digits, spelt, number}
 use Rattle.octets.proofs.Xor.{xor-append}
 
 power-pos : (base n : ℕ) → 0 < base → 0 < base ^ n

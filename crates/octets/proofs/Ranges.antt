@@ -1,10 +1,9 @@
 -- Laws of `Below`: lists whose elements are below a base. Assumes nothing.
-use Prim.Native.Nat.{ℕ, zero, suc, _+_, _^_, _≤_, _<_}
+use Prim.Native.Nat.{ℕ, zero, suc, _+_, _^_, _<_}
 use mathlib.Core.List.{List, [], _∷_, _++_, map}
-use mathlib.Core.Path.{_≡_, refl}
 use native.Mathlib.Omega.{arith}
-use lib.Bits.{bitXor, xor-lt}
-use lib.ListN.{length, getD, take, drop, length-take}
+use lib.Bits.{xor-lt}
+use lib.ListN.{getD, drop, length-take}
 use lib.Seq.{getD-take, getD-drop}
 use Rattle.octets.specs.Octets.{Octets, part, xor, Below}
 

@@ -4,7 +4,7 @@ use mathlib.Core.List.{[], _∷_, _++_, append-assoc, append-nil}
 use mathlib.Core.Path.{_≡_, _∙_}
 use native.Mathlib.Omega.{arith}
 use borrow.Rule.Slice.PartMut.{putMid, post-is}
-use lib.ListN.{length, take, drop, length-append, drop-of-length-le}
+use lib.ListN.{length, take, length-append}
 use lib.Seq.{take-at, take-length, length-take-le, drop-length}
 use Rattle.octets.specs.Octets.{Octets, encode, number}
 use Rattle.aka.specs.Usim.{Usim}

@@ -1,6 +1,5 @@
 -- `add_round_key` is AddRoundKey with the first round key. Assumes nothing.
 use Prim.Native.Nat.{ℕ}
-use mathlib.Core.Path.{_≡_, refl}
 use lib.ListN.{getD}
 use Rattle.octets.specs.Octets.{digits, xor}
 use Rattle.octets.proofs.Numbers.{digits-xor}

@@ -1,6 +1,6 @@
 -- `column` is a column of SubBytes, ShiftRows, MixColumns and AddRoundKey. Assumes nothing.
 use Prim.Native.Nat.{ℕ, _%_}
-use mathlib.Core.Path.{_≡_, refl, ap, _∙_}
+use mathlib.Core.Path.{ap, _∙_}
 use native.Mathlib.Omega.{arith}
 use Rattle.octets.specs.Octets.{digits}
 use Rattle.aes_tables.specs.Sbox.{sbox}

@@ -1,12 +1,10 @@
 -- `encrypt` is the cipher. The loop's invariant: `done` rounds are done. Assumes nothing.
 use Prim.Native.Nat.{ℕ, _≤_, _-_}
-use mathlib.Core.List.{List}
 use mathlib.Core.Path.{_≡_, refl, ap, _∙_}
 use borrow.Author.Needs.{needs}
 use native.Mathlib.Omega.{arith}
-use Rattle.octets.specs.Octets.{Octets}
 use Rattle.aes.specs.Block.{octetsOf}
-use Rattle.aes.specs.Cipher.{addRoundKey, rounds, lastRound, cipher}
+use Rattle.aes.specs.Cipher.{rounds, lastRound, cipher}
 use Rattle.aes.proofs.Rounds.{next-round}
 use Rattle.aes.proofs.encrypt.Statement.{statement}
 use Rattle.aes.proofs.encrypt.Tie as tie

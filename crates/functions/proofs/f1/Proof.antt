@@ -1,8 +1,8 @@
 -- `f1` is f1 of either set. Assumes nothing.
-use mathlib.Core.Path.{_≡_, ap, _∙_}
+use mathlib.Core.Path.{ap, _∙_}
 use mathlib.Core.List.{_++_}
 use lib.ListN.{take}
-use Rattle.octets.specs.Octets.{Octets, part, xor}
+use Rattle.octets.specs.Octets.{Octets, xor}
 use Rattle.milenage.specs.Milenage.{in1, out1}
 use Rattle.aka.specs.Functions.{Functions}
 use Rattle.functions.specs.Sets.{testSet, milenageSet}

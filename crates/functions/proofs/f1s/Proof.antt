@@ -1,5 +1,5 @@
 -- `f1s` is f1* of either set. Assumes nothing.
-use mathlib.Core.Path.{_≡_, ap, _∙_}
+use mathlib.Core.Path.{ap, _∙_}
 use mathlib.Core.List.{_++_}
 use lib.ListN.{take}
 use Rattle.octets.specs.Octets.{Octets, part, xor}

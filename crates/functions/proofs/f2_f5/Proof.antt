@@ -1,5 +1,5 @@
 -- `f2_f5` is f2 and f5 of either set. Assumes nothing.
-use mathlib.Core.Path.{_≡_, ap, _∙_}
+use mathlib.Core.Path.{ap, _∙_}
 use lib.ListN.{take}
 use Rattle.octets.specs.Octets.{part}
 use Rattle.milenage.specs.Milenage.{out2}

@@ -1,9 +1,7 @@
 -- `f3` is f3 of either set. Assumes nothing.
-use Rattle.octets.specs.Octets.{Octets, turnLeft, xor, part}
-use Rattle.milenage.specs.Milenage.{out1, out2, out3, out4, out5, in1}
-use mathlib.Core.Path.{_≡_, ap, ap₂, _∙_}
-use mathlib.Core.List.{_++_}
-use lib.ListN.{take, drop}
+use Rattle.octets.specs.Octets.{turnLeft}
+use Rattle.milenage.specs.Milenage.{out3}
+use mathlib.Core.Path.{ap, _∙_}
 use Rattle.aka.specs.Functions.{Functions}
 use Rattle.functions.specs.Sets.{testSet, milenageSet}
 use Rattle.functions.proofs.Choice.{test, test-start, milenage, output}

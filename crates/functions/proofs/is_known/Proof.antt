@@ -1,7 +1,6 @@
 -- `is_known` is the family's test. Assumes nothing.
 use mathlib.Core.Path.{refl}
 use Rattle.functions.specs.Sets.{sets}
-use borrow.Author.Needs.{needs}
 use Rattle.functions.proofs.is_known.Statement.{statement}
 use Rattle.functions.proofs.is_known.Tie as tie
 

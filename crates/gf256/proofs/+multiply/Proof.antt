@@ -1,5 +1,5 @@
 -- The proof of the cycle of calls {multiply}. The measure is `a`, which is halved. Assumes nothing.
-use mathlib.Core.Path.{_≡_, sym}
+use mathlib.Core.Path.{sym}
 use Prim.Native.Nat.{ℕ, _<_}
 use borrow.Author.Needs.{needs}
 use native.Mathlib.Omega.{arith}

@@ -1,7 +1,7 @@
 -- `sub_word` is SubWord. Assumes nothing.
 use Prim.Native.Nat.{ℕ, _%_}
 use mathlib.Core.List.{_∷_}
-use mathlib.Core.Path.{_≡_, refl, ap, ap₂, _∙_}
+use mathlib.Core.Path.{refl, ap, ap₂, _∙_}
 use native.Mathlib.Omega.{arith}
 use Rattle.octets.specs.Octets.{digits}
 use Rattle.aes_tables.specs.Sbox.{sbox, IsSbox}

@@ -1,7 +1,6 @@
 -- `left1` turns left by 4 octets. Assumes nothing.
 use mathlib.Core.Path.{refl}
 use Rattle.octets.specs.Octets.{digits, turnLeft}
-use borrow.Author.Needs.{needs}
 use Rattle.milenage.proofs.blocks.left1.Statement.{statement}
 use Rattle.milenage.proofs.blocks.left1.Tie as tie
 

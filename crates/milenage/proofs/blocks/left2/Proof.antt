@@ -1,7 +1,6 @@
 -- `left2` turns left by 8 octets. Assumes nothing.
 use mathlib.Core.Path.{refl}
 use Rattle.octets.specs.Octets.{digits, turnLeft}
-use borrow.Author.Needs.{needs}
 use Rattle.milenage.proofs.blocks.left2.Statement.{statement}
 use Rattle.milenage.proofs.blocks.left2.Tie as tie
 

@@ -1,7 +1,6 @@
 -- `left3` turns left by 12 octets. Assumes nothing.
 use mathlib.Core.Path.{refl}
 use Rattle.octets.specs.Octets.{digits, turnLeft}
-use borrow.Author.Needs.{needs}
 use Rattle.milenage.proofs.blocks.left3.Statement.{statement}
 use Rattle.milenage.proofs.blocks.left3.Tie as tie
 

@@ -1,6 +1,5 @@
 -- `with_constant` adds the constant. Assumes nothing.
 use Rattle.milenage.proofs.Sums.{added-constant}
-use borrow.Author.Needs.{needs}
 use Rattle.milenage.proofs.blocks.with_constant.Statement.{statement}
 use Rattle.milenage.proofs.blocks.with_constant.Tie as tie
 

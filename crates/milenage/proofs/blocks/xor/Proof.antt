@@ -1,6 +1,5 @@
 -- `xor` adds word by word. Assumes nothing.
 use Rattle.milenage.proofs.Sums.{added}
-use borrow.Author.Needs.{needs}
 use Rattle.milenage.proofs.blocks.xor.Statement.{statement}
 use Rattle.milenage.proofs.blocks.xor.Tie as tie
 
