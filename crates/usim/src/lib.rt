@@ -1,6 +1,4 @@
 // The USIM (document 01: card): its record, and its answer to a challenge.
-mod places;
-mod tokens;
 
 use functions::Challenge;
 use functions::Keys;

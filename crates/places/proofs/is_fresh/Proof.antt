@@ -1,0 +1,25 @@
+-- `is_fresh` is `fresh`. Assumes nothing.
+use mathlib.Core.Path.{refl}
+use borrow.Author.Tests.{le-ltb, lt-ltb}
+use Rattle.aka.specs.Usim.{fresh}
+use borrow.Author.Needs.{needs}
+use Rattle.places.proofs.is_fresh.Statement.{statement}
+use Rattle.places.proofs.is_fresh.Tie as tie
+
+returns : tie.Need-returns
+unfolding fresh
+returns c = rw (le-ltb _ _ (c .if1 .taken))
+
+returns-2 : tie.Need-returns-2
+unfolding fresh
+returns-2 c = rw (lt-ltb _ _ (c .before .if1 .left), ← c .before .before .highest .ensures, lt-ltb _ _ (c .if2 .taken)) refl
+
+returns-3 : tie.Need-returns-3
+unfolding fresh
+returns-3 c = rw (lt-ltb _ _ (c .before .if1 .left), ← c .before .before .highest .ensures, le-ltb _ _ (c .if2 .left)) refl
+
+pub is-fresh-spec : {M : Type 1} → statement M
+is-fresh-spec =
+    tie.close
+    (tie.spec
+    (λ c κs. search needs) (λ c. search needs) (λ c. search needs) returns returns-2 returns-3)

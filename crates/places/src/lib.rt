@@ -1,0 +1,80 @@
+// The thirty-two places of the card, each a SEQ: SEQ_MS, SQN_MS and freshness.
+ghost use mathlib.Core.Path.{_≡_};
+ghost use Prim.Native.Nat.{_<_, _≤_};
+ghost use Rattle.aka.specs.Sequence.{limit, sqnOf};
+ghost use Rattle.aka.specs.Usim.{allWithin, fresh, highest as highestOf, lowestIndex};
+
+// The largest SEQ.
+const LIMIT: u64 = 8796093022207;
+
+// The largest jump.
+const D: u64 = 268435456;
+
+// Whether no place is above the limit.
+pub fn within(places: [u64; 32]) -> bool
+    ensures { λ r. ⌜ r ≡ allWithin (limit 5) places ⌝ }
+{
+    let mut i: usize = 0;
+    while i < 32 {
+        if LIMIT < places[i] {
+            return false;
+        }
+        i += 1;
+    }
+    true
+}
+
+// SEQ_MS: the highest place.
+fn highest(places: [u64; 32]) -> u64
+    ensures { λ r. ⌜ r ≡ highestOf places ⌝ }
+{
+    let mut most: u64 = 0;
+    let mut i: usize = 0;
+    while i < 32 {
+        if most < places[i] {
+            most = places[i];
+        }
+        i += 1;
+    }
+    most
+}
+
+// The lowest index that holds `seq`, 32 where none does.
+fn lowest_index(places: [u64; 32], seq: u64) -> usize
+    ensures { λ r. ⌜ (r ≡ lowestIndex seq places) × (r ≤ 32) ⌝ }
+{
+    let mut i: usize = 0;
+    while i < 32 {
+        if places[i] == seq {
+            return i;
+        }
+        i += 1;
+    }
+    i
+}
+
+// SQN_MS.
+pub fn sqn_ms(places: [u64; 32]) -> u64
+    requires { ⌜ highestOf places ≤ limit 5 ⌝ }
+    ensures { λ r. ⌜ r ≡ sqnOf 5 (highestOf places) (lowestIndex (highestOf places) places) ⌝ }
+{
+    let seq = highest(places);
+    let ind = lowest_index(places, seq);
+    32 * seq + (ind as u64)
+}
+
+// Whether SEQ is above the place at IND, and not more than D above SEQ_MS.
+pub fn is_fresh(places: [u64; 32], seq: u64, ind: usize) -> bool
+    requires { ⌜ ind < 32 ⌝ }
+    ensures { λ r. ⌜ r ≡ fresh places seq ind ⌝ }
+{
+    let most = highest(places);
+    let place = places[ind];
+    if seq <= place {
+        return false;
+    }
+    if seq < most {
+        return true;
+    }
+    seq - most <= D
+}

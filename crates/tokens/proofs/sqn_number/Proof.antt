@@ -1,0 +1,24 @@
+-- `sqn_number` is `decode`. Assumes nothing.
+use mathlib.Core.Path.{ap}
+use native.Mathlib.Omega.{arith}
+use Rattle.octets.specs.Octets.{decode, spelt}
+use Rattle.octets.proofs.Strings.{listed-all}
+use borrow.Author.Needs.{needs}
+use Rattle.tokens.proofs.sqn_number.Statement.{statement}
+use Rattle.tokens.proofs.sqn_number.Tie as tie
+
+returns : tie.Need-returns
+unfolding spelt
+returns c =
+    let start = c .before .before .before .before .before .before in
+    omega (arith, ap decode (listed-all (start .args .t1) 6 (start .good .0 .1 .0 .1)))
+
+pub sqn-number-spec : {M : Type 1} → statement M
+sqn-number-spec =
+    tie.close
+    (tie.spec
+    (λ c. search needs) (λ c κs. search needs) (λ c. search needs) (λ c. search needs) (λ c κs. search needs)
+    (λ c. search needs) (λ c. search needs) (λ c. search needs) (λ c κs. search needs) (λ c. search needs)
+    (λ c. search needs) (λ c. search needs) (λ c κs. search needs) (λ c. search needs) (λ c. search needs)
+    (λ c. search needs) (λ c κs. search needs) (λ c. search needs) (λ c. search needs) (λ c. search needs)
+    (λ c κs. search needs) (λ c. search needs) returns)
