@@ -1,12 +1,10 @@
--- A column of a round by the table, and a block by its columns. Assumes nothing.
+-- A column of a round by the table. Assumes nothing.
 use Prim.Native.Nat.{ℕ}
-use mathlib.Core.List.{_++_}
 use mathlib.Core.Path.{_≡_, ap, ap₂, _∙_}
 use lib.Bits.{bitXor}
 use Rattle.octets.specs.Octets.{Octets, xor, turnLeft, encode}
 use Rattle.octets.proofs.Numbers.{digits-xor}
 use Rattle.aes_tables.specs.RoundTable.{added}
-use Rattle.aes.specs.Words.{columns}
 use Rattle.aes.specs.Cipher.{mixColumn}
 
 -- the words that the table gives for four octets, turned to their rows and added
@@ -23,7 +21,3 @@ module _ (s0 s1 s2 s3 p q r s q′ r′ s′ k : ℕ)
 
   pub mixed : encode 4 (bitXor (bitXor (bitXor (bitXor p q′) r′) s′) k) ≡ xor (mixColumn s0 s1 s2 s3) (encode 4 k)
   mixed = digits-xor 8 4 (bitXor (bitXor (bitXor p q′) r′) s′) k ∙ ap (λ (x : Octets). xor x (encode 4 k)) sum
-
--- a block whose columns are known
-pub joined : (a b c d : ℕ) {p q r s : Octets} → encode 4 a ≡ p → encode 4 b ≡ q → encode 4 c ≡ r → encode 4 d ≡ s → columns a b c d ≡ p ++ (q ++ (r ++ s))
-joined a b c d ep eq er es = ap₂ _++_ ep (ap₂ _++_ eq (ap₂ _++_ er es))

@@ -9,7 +9,7 @@ use Rattle.octets.proofs.Numbers.{digits-below}
 use Rattle.octets.proofs.Ranges.{below-append, below-map, below-at, below-xor}
 use Rattle.aes_tables.specs.Sbox.{sbox}
 use Rattle.aes_tables.proofs.Range.{sbox-lt}
-use Rattle.aes.specs.Words.{columns}
+use Rattle.aes_words.specs.Words.{columns}
 use Rattle.aes.specs.Cipher.{at, column, state, subBytes, shiftRows, roundKey, addRoundKey, rounds, lastRound, cipher}
 
 pub length-cipher : (w : List ℕ) (input : Octets) → length (cipher w input) ≡ 16

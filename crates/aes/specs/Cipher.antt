@@ -6,7 +6,8 @@ use lib.ListN.{getD}
 use Rattle.octets.specs.Octets.{Octets, xor}
 use Rattle.gf256.specs.Field.{times}
 use Rattle.aes_tables.specs.Sbox.{sbox}
-use Rattle.aes.specs.Words.{columns}
+use Rattle.aes_words.specs.Words.{columns}
+use Rattle.aes_schedule.specs.KeyExpansion.{keyExpansion}
 
 -- ---- the state (3.4): 16 octets, that of row r and column c at place r + 4c
 
@@ -71,3 +72,7 @@ lastRound w round s = addRoundKey w round (shiftRows (subBytes s))
 -- 10 rounds, with the key schedule w
 unfoldable pub cipher : List ℕ → Octets → Octets
 cipher w input = lastRound w 10 (rounds w 9 (addRoundKey w 0 input))
+
+-- AES-128 under a key: E of MILENAGE
+unfoldable pub aes : Octets → Octets → Octets
+aes key input = cipher (keyExpansion key) input

@@ -1,4 +1,1 @@
-pub mod Words
 pub mod Cipher
-pub mod KeyExpansion
-pub mod Block

@@ -1,29 +1,18 @@
-// AES-128 of FIPS 197: the key expansion and the cipher of one block.
+// AES-128 of FIPS 197: the cipher of one block.
 //
 // The state is four words, its columns, and a round is sixteen look-ups in one table. Table and key schedule are made once,
-// by `aes_tables::round_table` and `key_expansion`, and lent for each block.
-mod schedule;
-mod words;
-
+// by `aes_tables::round_table` and `aes_schedule::key_expansion`, and lent for each block.
 pub use aes_tables::round_table;
+use aes_words::Block;
 ghost use mathlib.Core.Path.{_≡_};
 ghost use mathlib.Core.List.{[], _∷_};
 ghost use Prim.Native.Nat.{_≤_};
 ghost use Rattle.octets.specs.Octets.{xor, encode};
 ghost use Rattle.aes_tables.specs.Sbox.{sbox};
 ghost use Rattle.aes_tables.specs.RoundTable.{IsRoundTable};
-ghost use Rattle.aes.specs.Words.{octet};
-ghost use Rattle.aes.specs.Block.{octetsOf};
-ghost use Rattle.aes.specs.KeyExpansion.{keyExpansion};
+ghost use Rattle.aes_words.specs.Words.{octet};
+ghost use Rattle.aes_words.specs.Block.{octetsOf};
 ghost use Rattle.aes.specs.Cipher.{mixColumn, addRoundKey, oneRound, lastRound, cipher};
-
-// 16 octets, as the words of a state's columns.
-pub struct Block {
-    pub a: u32,
-    pub b: u32,
-    pub c: u32,
-    pub d: u32,
-}
 
 // One column of a round: its octets come from four columns of the state, `k` is its word of the round key.
 fn column(t: &[u32; 256], a: u32, b: u32, c: u32, d: u32, k: u32) -> u32
@@ -34,7 +23,7 @@ fn column(t: &[u32; 256], a: u32, b: u32, c: u32, d: u32, k: u32) -> u32
     let f = ((b >> 16) % 256) as usize;
     let g = ((c >> 8) % 256) as usize;
     let h = (d % 256) as usize;
-    t[e] ^ words::left3(t[f]) ^ words::left2(t[g]) ^ words::left1(t[h]) ^ k
+    t[e] ^ aes_words::left3(t[f]) ^ aes_words::left2(t[g]) ^ aes_words::left1(t[h]) ^ k
 }
 
 // The same in the last round, which does not mix the columns. The S-box's value is the second octet of the table's word.
@@ -46,11 +35,11 @@ fn last_column(t: &[u32; 256], a: u32, b: u32, c: u32, d: u32, k: u32) -> u32
     let f = ((b >> 16) % 256) as usize;
     let g = ((c >> 8) % 256) as usize;
     let h = (d % 256) as usize;
-    words::word(
-        words::second(t[e]),
-        words::second(t[f]),
-        words::second(t[g]),
-        words::second(t[h]),
+    aes_words::word(
+        aes_words::second(t[e]),
+        aes_words::second(t[f]),
+        aes_words::second(t[g]),
+        aes_words::second(t[h]),
     )
         ^ k
 }
@@ -103,57 +92,4 @@ pub fn encrypt(t: &[u32; 256], w: &[u32; 44], input: Block) -> Block
         done += 1;
     }
     last_round(t, w, s)
-}
-
-// The key schedule of a key.
-pub fn key_expansion(key: Block) -> [u32; 44]
-    ensures { λ r. ⌜ r ≡ keyExpansion (octetsOf key) ⌝ }
-{
-    let sbox = aes_tables::sbox();
-    let mut w = [0u32; 44];
-    w[0] = key.a;
-    w[1] = key.b;
-    w[2] = key.c;
-    w[3] = key.d;
-    let mut i = 4;
-    while i < 44 {
-        let next = schedule::next_word(&sbox, &w, i);
-        w[i] = next;
-        i += 1;
-    }
-    w
-}
-
-pub fn from_octets(x: [u8; 16]) -> Block
-    ensures { λ r. ⌜ octetsOf r ≡ x ⌝ }
-{
-    Block {
-        a: words::word(x[0], x[1], x[2], x[3]),
-        b: words::word(x[4], x[5], x[6], x[7]),
-        c: words::word(x[8], x[9], x[10], x[11]),
-        d: words::word(x[12], x[13], x[14], x[15]),
-    }
-}
-
-pub fn to_octets(s: Block) -> [u8; 16]
-    ensures { λ r. ⌜ r ≡ octetsOf s ⌝ }
-{
-    [
-        ((s.a >> 24) % 256) as u8,
-        ((s.a >> 16) % 256) as u8,
-        ((s.a >> 8) % 256) as u8,
-        (s.a % 256) as u8,
-        ((s.b >> 24) % 256) as u8,
-        ((s.b >> 16) % 256) as u8,
-        ((s.b >> 8) % 256) as u8,
-        (s.b % 256) as u8,
-        ((s.c >> 24) % 256) as u8,
-        ((s.c >> 16) % 256) as u8,
-        ((s.c >> 8) % 256) as u8,
-        (s.c % 256) as u8,
-        ((s.d >> 24) % 256) as u8,
-        ((s.d >> 16) % 256) as u8,
-        ((s.d >> 8) % 256) as u8,
-        (s.d % 256) as u8,
-    ]
 }

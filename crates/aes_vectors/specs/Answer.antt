@@ -5,8 +5,8 @@ use mathlib.Core.List.{List}
 use lib.Dec.{eqb}
 use lib.ListN.{getD, length}
 use Rattle.octets.specs.Octets.{Octets, part}
-use Rattle.aes.specs.KeyExpansion.{aes}
-use Rattle.text.specs.Hex.{hex, isHex, unhex}
+use Rattle.aes.specs.Cipher.{aes}
+use Rattle.hex.specs.Hex.{hex, isHex, unhex}
 
 abbrev pub space : ℕ
 space = 32

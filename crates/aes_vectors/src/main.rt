@@ -2,17 +2,16 @@
 // `bad line`.
 ghost use mathlib.Core.Path.{_≡_};
 ghost use Rattle.aes_tables.specs.RoundTable.{IsRoundTable};
-ghost use Rattle.aes.specs.KeyExpansion.{aes};
+ghost use Rattle.aes.specs.Cipher.{aes};
 ghost use Rattle.aes_vectors.specs.Answer.{answered, wellFormed};
-use text::hex;
 
 // One block under a key.
 fn encrypted(table: &[u32; 256], key: [u8; 16], block: [u8; 16]) -> [u8; 16]
     requires { ⌜ IsRoundTable (now table) ⌝ }
     ensures { λ r. ⌜ r ≡ aes key block ⌝ }
 {
-    let w = aes::key_expansion(aes::from_octets(key));
-    aes::to_octets(aes::encrypt(table, &w, aes::from_octets(block)))
+    let w = aes_schedule::key_expansion(aes_words::from_octets(key));
+    aes_words::to_octets(aes::encrypt(table, &w, aes_words::from_octets(block)))
 }
 
 // Whether the line is well formed: then `out` is the ciphertext in hex, and else as it was.

@@ -1,6 +1,5 @@
 // The calls of the card.
 use crate::parts;
-use text::fields;
 use usim::Usim;
 use usim::Verdict;
 

@@ -2,8 +2,6 @@
 mod card;
 mod parts;
 
-use text::fields;
-
 // Puts the answer to a line into the output buffer, and returns how many bytes wait there.
 fn answer(line: &[u8], out: &mut [u8], used: usize) -> usize {
     if 4096 < line.len() {

@@ -1,7 +1,5 @@
 // Reading the fields of a line, and putting those of an answer.
 use functions::Keys;
-use text::fields;
-use text::hex;
 
 // A field of a line from `start` up to `end`; whether another follows, and where. `ok` is false where there is none.
 pub(crate) struct Field {

@@ -7,7 +7,6 @@ ghost use Rattle.io.specs.Counts.{Counts};
 ghost use Rattle.console.specs.Waiting.{waiting};
 use libc::STDIN_FILENO;
 use libc::STDOUT_FILENO;
-use text::lines;
 
 // The first `n` bytes; all, where there are fewer.
 pub fn front<'a>(bytes: &'a [u8], n: usize) -> &'a [u8]

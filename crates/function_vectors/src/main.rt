@@ -5,7 +5,6 @@ ghost use Rattle.functions.specs.Sets.{sets};
 ghost use Rattle.functions.specs.Challenge.{keysOf};
 ghost use Rattle.function_vectors.specs.Answers.{Answers};
 use functions::Keys;
-use text::hex;
 
 pub struct Outputs {
     pub mac: [u8; 8],

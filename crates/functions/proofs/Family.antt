@@ -11,7 +11,8 @@ use Rattle.octets.proofs.Xor.{length-xor}
 use Rattle.octets.proofs.Strings.{length-turnLeft}
 use Rattle.octets.proofs.Parts.{length-part}
 use Rattle.octets.proofs.Ranges.{below-part, below-xor}
-use Rattle.aes.specs.KeyExpansion.{keyExpansion, aes}
+use Rattle.aes_schedule.specs.KeyExpansion.{keyExpansion}
+use Rattle.aes.specs.Cipher.{aes}
 use Rattle.aes.proofs.Range.{length-cipher, cipher-below}
 use Rattle.milenage.specs.Milenage.{constant, in1, out1, out}
 use Rattle.aka.specs.Functions.{Keys, Functions, Shaped, Lengths, Lawful}

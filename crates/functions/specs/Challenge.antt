@@ -6,8 +6,8 @@ use mathlib.Core.List.{List}
 use mathlib.Core.Path.{_≡_}
 use lib.Dec.{eqb}
 use Rattle.octets.specs.Octets.{Octets}
-use Rattle.aes.specs.Block.{octetsOf}
-use Rattle.aes.specs.KeyExpansion.{keyExpansion}
+use Rattle.aes_words.specs.Block.{octetsOf}
+use Rattle.aes_schedule.specs.KeyExpansion.{keyExpansion}
 use Rattle.aka.specs.Functions as aka
 use Rattle.functions.specs.declared.Keys as declared
 use Rattle.functions.specs.declared.Challenge.{Challenge}

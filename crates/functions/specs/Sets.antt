@@ -4,7 +4,7 @@ use mathlib.Core.List.{_++_}
 use lib.Dec.{eqb, leb}
 use lib.ListN.{take}
 use Rattle.octets.specs.Octets.{Octets, part, xor, turnLeft}
-use Rattle.aes.specs.KeyExpansion.{aes}
+use Rattle.aes.specs.Cipher.{aes}
 use Rattle.milenage.specs.Milenage.{temp, in1, out1, out2, out3, out4, out5}
 use Rattle.aka.specs.Functions.{Keys, Functions, Family}
 

@@ -2,13 +2,11 @@
 // result each function takes. The round table of AES is lent throughout.
 //
 // A set above 1 is the caller's to refuse; here it counts as MILENAGE.
-mod test_set;
-
-use aes::Block;
+use aes_words::Block;
 ghost use mathlib.Core.Path.{_≡_};
 ghost use Rattle.octets.specs.Octets.{Octets};
 ghost use Rattle.aka.specs.Functions.{Keys as KeysOf};
-ghost use Rattle.aes.specs.Block.{octetsOf};
+ghost use Rattle.aes_words.specs.Block.{octetsOf};
 ghost use Rattle.aes.specs.Cipher.{cipher};
 ghost use Rattle.milenage.specs.Milenage.{in1 as IN1, out1};
 ghost use Rattle.aes_tables.specs.RoundTable.{IsRoundTable};
@@ -51,7 +49,7 @@ pub fn schedule(keys: Keys) -> [u32; 44]
         return [0; 44];
     }
     let k = keys.k;
-    aes::key_expansion(aes::from_octets(k))
+    aes_schedule::key_expansion(aes_words::from_octets(k))
 }
 
 // A RAND taken up under the keys, with their schedule.
@@ -62,12 +60,12 @@ pub fn start(t: &[u32; 256], w: &[u32; 44], keys: Keys, rand: [u8; 16]) -> Chall
     let set = keys.set;
     let k = keys.k;
     let o = keys.opc;
-    let opc = aes::from_octets(o);
+    let opc = aes_words::from_octets(o);
     if set == 0 {
         let x = test_set::x(k, rand);
         return Challenge { set, opc, start: x };
     }
-    let temp = milenage::temp(t, w, opc, aes::from_octets(rand));
+    let temp = milenage::temp(t, w, opc, aes_words::from_octets(rand));
     Challenge {
         set,
         opc,
@@ -79,7 +77,7 @@ pub fn start(t: &[u32; 256], w: &[u32; 44], keys: Keys, rand: [u8; 16]) -> Chall
 fn in1(sqn: [u8; 6], amf: [u8; 2]) -> Block
     ensures { λ r. ⌜ octetsOf r ≡ IN1 sqn amf ⌝ }
 {
-    let half = aes::from_octets([
+    let half = aes_words::from_octets([
         sqn[0],
         sqn[1],
         sqn[2],
@@ -112,7 +110,7 @@ fn both_macs(t: &[u32; 256], w: &[u32; 44], c: Challenge, sqn: [u8; 6], amf: [u8
 {
     let opc = c.opc;
     let start = c.start;
-    aes::to_octets(milenage::out1(t, w, opc, start, in1(sqn, amf)))
+    aes_words::to_octets(milenage::out1(t, w, opc, start, in1(sqn, amf)))
 }
 
 // MAC: f1 of SQN, RAND and AMF.
@@ -150,13 +148,13 @@ pub fn f2_f5(t: &[u32; 256], w: &[u32; 44], c: Challenge) -> ResAk
     let opc = c.opc;
     let start = c.start;
     if set == 0 {
-        let x = aes::to_octets(start);
+        let x = aes_words::to_octets(start);
         return ResAk {
             res: octets::eight(x, 0),
             ak: octets::six(x, 3),
         };
     }
-    let out2 = aes::to_octets(milenage::out2(t, w, opc, start));
+    let out2 = aes_words::to_octets(milenage::out2(t, w, opc, start));
     ResAk {
         res: octets::eight(out2, 8),
         ak: octets::six(out2, 0),
@@ -172,9 +170,9 @@ pub fn f3(t: &[u32; 256], w: &[u32; 44], c: Challenge) -> [u8; 16]
     let opc = c.opc;
     let start = c.start;
     if set == 0 {
-        return test_set::left1(aes::to_octets(start));
+        return test_set::left1(aes_words::to_octets(start));
     }
-    aes::to_octets(milenage::out3(t, w, opc, start))
+    aes_words::to_octets(milenage::out3(t, w, opc, start))
 }
 
 // IK: f4 of RAND.
@@ -186,9 +184,9 @@ pub fn f4(t: &[u32; 256], w: &[u32; 44], c: Challenge) -> [u8; 16]
     let opc = c.opc;
     let start = c.start;
     if set == 0 {
-        return test_set::left2(aes::to_octets(start));
+        return test_set::left2(aes_words::to_octets(start));
     }
-    aes::to_octets(milenage::out4(t, w, opc, start))
+    aes_words::to_octets(milenage::out4(t, w, opc, start))
 }
 
 // AK*: f5* of RAND.
@@ -200,7 +198,7 @@ pub fn f5s(t: &[u32; 256], w: &[u32; 44], c: Challenge) -> [u8; 6]
     let opc = c.opc;
     let start = c.start;
     if set == 0 {
-        return octets::six(aes::to_octets(start), 3);
+        return octets::six(aes_words::to_octets(start), 3);
     }
-    octets::six(aes::to_octets(milenage::out5(t, w, opc, start)), 0)
+    octets::six(aes_words::to_octets(milenage::out5(t, w, opc, start)), 0)
 }

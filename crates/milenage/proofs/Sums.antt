@@ -6,8 +6,8 @@ use native.Mathlib.Omega.{arith}
 use lib.Bits.{bitXor, xor-zero-r}
 use Rattle.octets.specs.Octets.{Octets, digits, encode, xor, turnLeft}
 use Rattle.octets.proofs.Numbers.{digits-xor}
-use Rattle.aes.specs.Words.{columns}
-use Rattle.aes.proofs.Columns.{joined}
+use Rattle.aes_words.specs.Words.{columns}
+use Rattle.aes_words.proofs.Blocks.{joined}
 use Rattle.milenage.specs.Milenage.{constant, out1, out}
 
 constant-columns : (x : ℕ) → x < 256 → columns 0 0 0 x ≡ constant x

@@ -1,9 +1,9 @@
 // Blocks of four words: sums, and turns by whole words.
-use aes::Block;
+use aes_words::Block;
 ghost use mathlib.Core.Path.{_≡_};
 ghost use Prim.Native.Nat.{_<_};
 ghost use Rattle.octets.specs.Octets.{xor as xorOctets, turnLeft};
-ghost use Rattle.aes.specs.Block.{octetsOf};
+ghost use Rattle.aes_words.specs.Block.{octetsOf};
 ghost use Rattle.milenage.specs.Milenage.{constant};
 
 pub fn xor(p: Block, q: Block) -> Block

@@ -2,11 +2,11 @@
 // a RAND and handed to each output.
 pub mod blocks;
 
-use aes::Block;
+use aes_words::Block;
 ghost use mathlib.Core.Path.{_≡_};
 ghost use Rattle.octets.specs.Octets.{xor};
 ghost use Rattle.aes_tables.specs.RoundTable.{IsRoundTable};
-ghost use Rattle.aes.specs.Block.{octetsOf};
+ghost use Rattle.aes_words.specs.Block.{octetsOf};
 ghost use Rattle.aes.specs.Cipher.{cipher};
 ghost use Rattle.milenage.specs.Milenage.{temp as TEMP, out1 as OUT1, out2 as OUT2, out3 as OUT3, out4 as OUT4, out5 as OUT5};
 

@@ -4,3 +4,4 @@ pub mod Strings
 pub mod Tables
 pub mod Ranges
 pub mod Parts
+pub mod Walks

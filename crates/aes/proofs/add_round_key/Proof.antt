@@ -4,7 +4,7 @@ use lib.ListN.{getD}
 use Rattle.octets.specs.Octets.{digits, xor}
 use Rattle.octets.proofs.Numbers.{digits-xor}
 use Rattle.aes.specs.Cipher.{roundKey, addRoundKey}
-use Rattle.aes.proofs.Columns.{joined}
+use Rattle.aes_words.proofs.Blocks.{joined}
 use borrow.Author.Needs.{needs}
 use Rattle.aes.proofs.add_round_key.Statement.{statement}
 use Rattle.aes.proofs.add_round_key.Tie as tie

@@ -5,7 +5,7 @@ use native.Mathlib.Omega.{arith}
 use Rattle.octets.specs.Octets.{digits}
 use Rattle.aes_tables.specs.Sbox.{sbox}
 use Rattle.aes_tables.specs.RoundTable.{added, IsRoundTable}
-use Rattle.aes.proofs.Turns.{shifted2, shifted3}
+use Rattle.aes_words.proofs.Turns.{shifted2, shifted3}
 use Rattle.aes.proofs.Columns.{mixed}
 use borrow.Author.Needs.{needs}
 use Rattle.aes.proofs.column.Statement.{statement}

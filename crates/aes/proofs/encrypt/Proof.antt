@@ -3,7 +3,7 @@ use Prim.Native.Nat.{ℕ, _≤_, _-_}
 use mathlib.Core.Path.{_≡_, refl, ap, _∙_}
 use borrow.Author.Needs.{needs}
 use native.Mathlib.Omega.{arith}
-use Rattle.aes.specs.Block.{octetsOf}
+use Rattle.aes_words.specs.Block.{octetsOf}
 use Rattle.aes.specs.Cipher.{rounds, lastRound, cipher}
 use Rattle.aes.proofs.Rounds.{next-round}
 use Rattle.aes.proofs.encrypt.Statement.{statement}

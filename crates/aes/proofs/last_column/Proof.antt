@@ -8,8 +8,8 @@ use Rattle.octets.specs.Octets.{Octets, digits, xor, encode}
 use Rattle.octets.proofs.Numbers.{digits-xor}
 use Rattle.aes_tables.specs.Sbox.{sbox}
 use Rattle.aes_tables.specs.RoundTable.{added, IsRoundTable}
-use Rattle.aes.specs.Words.{octet}
-use Rattle.aes.proofs.Turns.{shifted2, shifted3}
+use Rattle.aes_words.specs.Words.{octet}
+use Rattle.aes_words.proofs.Turns.{shifted2, shifted3}
 use borrow.Author.Needs.{needs}
 use Rattle.aes.proofs.last_column.Statement.{statement}
 use Rattle.aes.proofs.last_column.Tie as tie

@@ -1,7 +1,7 @@
 -- `last_round` is the last round: its four columns side by side. Assumes nothing.
 use Rattle.octets.specs.Octets.{digits, xor}
 use Rattle.aes.specs.Cipher.{subBytes, shiftRows, roundKey, addRoundKey, lastRound}
-use Rattle.aes.proofs.Columns.{joined}
+use Rattle.aes_words.proofs.Blocks.{joined}
 use borrow.Author.Needs.{needs}
 use Rattle.aes.proofs.last_round.Statement.{statement}
 use Rattle.aes.proofs.last_round.Tie as tie

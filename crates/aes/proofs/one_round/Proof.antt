@@ -1,7 +1,7 @@
 -- `one_round` is a round: its four columns side by side. Assumes nothing.
 use Rattle.octets.specs.Octets.{digits, xor}
 use Rattle.aes.specs.Cipher.{subBytes, shiftRows, mixColumn, mixColumns, roundKey, addRoundKey, oneRound}
-use Rattle.aes.proofs.Columns.{joined}
+use Rattle.aes_words.proofs.Blocks.{joined}
 use borrow.Author.Needs.{needs}
 use Rattle.aes.proofs.one_round.Statement.{statement}
 use Rattle.aes.proofs.one_round.Tie as tie

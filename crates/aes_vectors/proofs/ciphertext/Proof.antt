@@ -8,8 +8,8 @@ use borrow.Author.Needs.{needs}
 use borrow.Author.Tests.{eq-eqb, ne-eqb, not-false, not-true}
 use lib.ListN.{length}
 use lib.Seq.{length-take-le}
-use Rattle.text.specs.Hex.{hasRoom, hex, isHex, readInto, unhex, writtenInto}
-use Rattle.aes.specs.KeyExpansion.{aes}
+use Rattle.hex.specs.Hex.{hasRoom, hex, isHex, readInto, unhex, writtenInto}
+use Rattle.aes.specs.Cipher.{aes}
 use Rattle.aes_vectors.specs.Answer.{answered, ciphertext, wellFormed}
 use Rattle.aes_vectors.proofs.ciphertext.Statement.{statement}
 use Rattle.aes_vectors.proofs.ciphertext.Tie as tie

@@ -1,6 +1,6 @@
 -- `encrypted` is AES: the calls' equations, put together. Assumes nothing.
 use borrow.Author.Needs.{needs}
-use Rattle.aes.specs.KeyExpansion.{aes}
+use Rattle.aes.specs.Cipher.{aes}
 use Rattle.aes_vectors.proofs.encrypted.Statement.{statement}
 use Rattle.aes_vectors.proofs.encrypted.Tie as tie
 

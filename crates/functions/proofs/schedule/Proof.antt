@@ -2,7 +2,7 @@
 use mathlib.Core.Bool.{true≢false}
 use mathlib.Core.Path.{ap, sym, _∙_}
 use borrow.Author.Tests.{eq-eqb}
-use Rattle.aes.specs.KeyExpansion.{keyExpansion}
+use Rattle.aes_schedule.specs.KeyExpansion.{keyExpansion}
 use Rattle.functions.specs.Challenge.{IsSchedule}
 use borrow.Author.Needs.{needs}
 use Rattle.functions.proofs.schedule.Statement.{statement}

@@ -6,9 +6,9 @@ use Prim.Native.Nat.{ℕ}
 use borrow.Author.Tests.{eq-eqb, ne-eqb}
 use lib.Dec.{eqb}
 use Rattle.octets.specs.Octets.{Octets}
-use Rattle.aes.specs.Block.{octetsOf}
-use Rattle.aes.specs.Cipher.{cipher}
-use Rattle.aes.specs.KeyExpansion.{keyExpansion, aes}
+use Rattle.aes_words.specs.Block.{octetsOf}
+use Rattle.aes_schedule.specs.KeyExpansion.{keyExpansion}
+use Rattle.aes.specs.Cipher.{cipher, aes}
 use Rattle.milenage.specs.Milenage.{temp}
 use Rattle.functions.specs.Sets.{testX, milenageT}
 use Rattle.functions.specs.Challenge.{IsSchedule, startOf}

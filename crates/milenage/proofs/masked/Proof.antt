@@ -1,7 +1,7 @@
 -- `masked` is the cipher and OPc. Assumes nothing.
 use mathlib.Core.Path.{ap, _∙_}
 use Rattle.octets.specs.Octets.{Octets, xor}
-use Rattle.aes.specs.Block.{octetsOf}
+use Rattle.aes_words.specs.Block.{octetsOf}
 use borrow.Author.Needs.{needs}
 use Rattle.milenage.proofs.masked.Statement.{statement}
 use Rattle.milenage.proofs.masked.Tie as tie

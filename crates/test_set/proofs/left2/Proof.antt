@@ -1,0 +1,20 @@
+-- `left2` turns left by 2 octets. Assumes nothing.
+use mathlib.Core.Path.{ap}
+use Rattle.octets.specs.Octets.{turnLeft}
+use Rattle.octets.proofs.Strings.{listed-all}
+use borrow.Author.Needs.{needs}
+use Rattle.test_set.proofs.left2.Statement.{statement}
+use Rattle.test_set.proofs.left2.Tie as tie
+
+returns : tie.Need-returns
+unfolding turnLeft
+returns c = ap (turnLeft 2) (listed-all (c .args .t1) 16 (c .good .0 .1 .0 .1))
+
+pub left2-spec : {M : Type 1} → statement M
+left2-spec =
+    tie.close
+    (tie.spec
+    (λ c. search needs) (λ c. search needs) (λ c. search needs) (λ c. search needs) (λ c. search needs)
+    (λ c. search needs) (λ c. search needs) (λ c. search needs) (λ c. search needs) (λ c. search needs)
+    (λ c. search needs) (λ c. search needs) (λ c. search needs) (λ c. search needs) (λ c. search needs)
+    (λ c. search needs) returns)

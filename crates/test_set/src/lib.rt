@@ -1,0 +1,85 @@
+// Set 0, of X.
+use aes_words::Block;
+ghost use mathlib.Core.Path.{_≡_};
+ghost use mathlib.Core.List.{_++_};
+ghost use lib.ListN.{take};
+ghost use Rattle.octets.specs.Octets.{xor, turnLeft};
+ghost use Rattle.aes_words.specs.Block.{octetsOf};
+
+pub fn x(k: [u8; 16], rand: [u8; 16]) -> Block
+    ensures { λ r. ⌜ octetsOf r ≡ xor k rand ⌝ }
+{
+    milenage::blocks::xor(aes_words::from_octets(k), aes_words::from_octets(rand))
+}
+
+// MAC and MAC-S, of SQN and AMF.
+pub fn mac(x: Block, sqn: [u8; 6], amf: [u8; 2]) -> [u8; 8]
+    ensures { λ r. ⌜ r ≡ xor (take 8 (octetsOf x)) (sqn ++ amf) ⌝ }
+{
+    let first = octets::eight(aes_words::to_octets(x), 0);
+    octets::xor8(first, sqn_amf(sqn, amf))
+}
+
+// SQN, then AMF.
+fn sqn_amf(sqn: [u8; 6], amf: [u8; 2]) -> [u8; 8]
+    ensures { λ r. ⌜ r ≡ sqn ++ amf ⌝ }
+{
+    [
+        sqn[0],
+        sqn[1],
+        sqn[2],
+        sqn[3],
+        sqn[4],
+        sqn[5],
+        amf[0],
+        amf[1],
+    ]
+}
+
+// Turned left by 8 bits.
+pub fn left1(x: [u8; 16]) -> [u8; 16]
+    ensures { λ r. ⌜ r ≡ turnLeft 1 x ⌝ }
+{
+    [
+        x[1],
+        x[2],
+        x[3],
+        x[4],
+        x[5],
+        x[6],
+        x[7],
+        x[8],
+        x[9],
+        x[10],
+        x[11],
+        x[12],
+        x[13],
+        x[14],
+        x[15],
+        x[0],
+    ]
+}
+
+// Turned left by 16 bits.
+pub fn left2(x: [u8; 16]) -> [u8; 16]
+    ensures { λ r. ⌜ r ≡ turnLeft 2 x ⌝ }
+{
+    [
+        x[2],
+        x[3],
+        x[4],
+        x[5],
+        x[6],
+        x[7],
+        x[8],
+        x[9],
+        x[10],
+        x[11],
+        x[12],
+        x[13],
+        x[14],
+        x[15],
+        x[0],
+        x[1],
+    ]
+}

@@ -1,4 +1,0 @@
-pub mod BufferLaws
-pub mod HexLaws
-pub mod LineLaws
-pub mod Walks
