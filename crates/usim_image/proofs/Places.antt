@@ -1,5 +1,5 @@
--- A valid record's places are digits of their width, and its set is small. Assumes nothing.
-use Prim.Native.Nat.{ℕ, suc, _-_, _^_, _<_}
+-- A valid record's places are digits of their width. Assumes nothing.
+use Prim.Native.Nat.{ℕ, suc, _-_, _^_}
 use mathlib.Core.Bool.{true, and-eq-true-iff}
 use mathlib.Core.List.{List, [], _∷_}
 use mathlib.Core.Path.{_≡_, refl}
@@ -12,7 +12,6 @@ use Rattle.octets.proofs.Ranges.{below-none, below-cons}
 use Rattle.aka.specs.Functions.{Family}
 use Rattle.aka.specs.Sequence.{limit}
 use Rattle.aka.specs.Usim.{Usim, validUsim, allWithin}
-use Rattle.functions.specs.Sets.{sets}
 
 within-below : (bits : ℕ) (l : List ℕ) → allWithin (2 ^ bits - 1) l ≡ true → Below (2 ^ bits) l
 unfolding allWithin
@@ -37,7 +36,3 @@ module _ (w : ℕ) (family : Family) (usim : Usim) (valid : validUsim w family u
 
   pub valid-places : Below (2 ^ (48 - w)) (usim .places)
   valid-places = within-below (48 - w) (usim .places) (both .1)
-
-pub few-sets : (set : ℕ) → sets .known set ≡ true → set < 16
-unfolding sets
-few-sets set known = omega (arith, leb-true set 1 known)

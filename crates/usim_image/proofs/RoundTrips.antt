@@ -1,26 +1,28 @@
 -- Reading what was written gives the record, and writing what was read gives the octets. Assumes nothing.
-use Prim.Native.Nat.{ℕ, _+_, _*_, _/_, _%_, _^_, _<_}
-use mathlib.Core.Bool.{Bool, true, false, not, cond, and-eq-true-iff}
-use mathlib.Core.List.{[], _∷_, _++_}
+use Prim.Native.Nat.{ℕ, _+_, _*_, _^_, _<_}
+use mathlib.Core.Bool.{true}
+use mathlib.Core.List.{_++_}
 use mathlib.Core.Path.{_≡_, refl, sym, ap, ap₂, _∙_}
 use native.Mathlib.Omega.{arith}
 use borrow.Author.Tests.{eqb-true, eq-eqb}
 use lib.Dec.{eqb}
-use lib.ListN.{length, getD, drop, length-append, length-drop}
+use lib.ListN.{length, length-append}
 use lib.Pow.{pow-pos}
-use lib.Seq.{drop-cons, take-all}
 use Rattle.octets.specs.Octets.{Octets, Below, part, digits, number, encode, decode}
 use Rattle.octets.proofs.Numbers.{length-digits, digits-below}
 use Rattle.aka.specs.Functions.{Family, Shaped}
 use Rattle.aka.specs.Sequence.{indices}
 use Rattle.aka.specs.Usim.{Usim, validUsim}
-use Rattle.octets.proofs.Parts.{front, past, whole, meet, length-part}
+use Rattle.octets.proofs.Parts.{past, whole, meet, length-part}
 use Rattle.octets.proofs.Ranges.{below-part}
 use Rattle.functions.specs.Sets.{sets}
 use Rattle.packing.specs.Packing.{repacked}
 use Rattle.packing.proofs.Repacked.{repacked-back}
-use Rattle.usim_image.specs.Image.{edition, seqBits, placesSize, imageSize, image, readImage, Read, writeAnswer, readAnswer, knownHead}
-use Rattle.usim_image.proofs.Places.{below-within, valid-set, valid-places, few-sets}
+use Rattle.image_parts.specs.Head.{seqBits, head, knownHead}
+use Rattle.image_parts.proofs.Heads.{few-sets, length-head, read-head, known-head, known-set, write-head}
+use Rattle.image_parts.proofs.Tests.{unrefused}
+use Rattle.usim_image.specs.Image.{placesSize, imageSize, image, readImage, Read, writeAnswer, readAnswer}
+use Rattle.usim_image.proofs.Places.{below-within, valid-set, valid-places}
 
 -- K and OPc have their length, and there is a place for each index (the code's types see to it)
 pub record Sized (w : ℕ) (usim : Usim) : Type 0 where
@@ -34,7 +36,7 @@ module _ (w : ℕ) (filled : seqBits w * indices w ≡ 8 * placesSize w) where
   unfolding image
   length-image usim shaped =
       let size = length-digits 256 (placesSize w) (number (2 ^ seqBits w) (usim .places)) in
-      simp length-append (omega (arith, shaped .k, shaped .opc))
+      simp length-append (omega (arith, length-head (usim .keys) shaped))
 
   places-back : (l : Octets) → length l ≡ indices w → Below (2 ^ seqBits w) l
       → digits (2 ^ seqBits w) (indices w) (decode (encode (placesSize w) (number (2 ^ seqBits w) l))) ≡ l
@@ -49,66 +51,33 @@ module _ (w : ℕ) (filled : seqBits w * indices w ≡ 8 * placesSize w) where
   pub read-image : (usim : Usim) → Sized w usim → usim .keys .set < 16 → Below (2 ^ seqBits w) (usim .places) → readImage w (image w usim) ≡ usim
   unfolding image readImage
   read-image usim sized few b = λ i. record {
-    keys = record {
-      set = set i;
-      k = (past head (k ++ (opc ++ packed)) 1 0 16 refl ∙ front k (opc ++ packed) 16 (sized .keys .k)) i;
-      opc = (past head (k ++ (opc ++ packed)) 1 16 16 refl ∙ past k (opc ++ packed) 16 0 16 (sized .keys .k) ∙ front opc packed 16 (sized .keys .opc)) i;
-    };
+    keys = read-head (usim .keys) packed few (sized .keys) i;
     places = (ap (λ (x : Octets). digits (2 ^ seqBits w) (indices w) (decode x)) last ∙ places-back (usim .places) (sized .places) b) i;
   }
     where
-      k : Octets
-      k = usim .keys .k
-
-      opc : Octets
-      opc = usim .keys .opc
-
-      head : Octets
-      head = (16 * edition + usim .keys .set) ∷ []
-
       packed : Octets
       packed = encode (placesSize w) (number (2 ^ seqBits w) (usim .places))
 
-      set : (16 * edition + usim .keys .set) % 16 ≡ usim .keys .set
-      set = omega arith
-
       last : part 33 (placesSize w) (image w usim) ≡ packed
       last =
-          past head (k ++ (opc ++ packed)) 1 32 (placesSize w) refl
-          ∙ past k (opc ++ packed) 16 16 (placesSize w) (sized .keys .k)
-          ∙ past opc packed 16 0 (placesSize w) (sized .keys .opc)
+          past (head (usim .keys)) packed 33 0 (placesSize w) (length-head (usim .keys) (sized .keys))
           ∙ whole packed (placesSize w) (length-digits 256 (placesSize w) (number (2 ^ seqBits w) (usim .places)))
 
-  pub write-image : (x : Octets) → length x ≡ imageSize w → Below 256 x → getD x 0 0 / 16 ≡ edition → image w (readImage w x) ≡ x
+  pub write-image : (family : Family) (x : Octets) → length x ≡ imageSize w → Below 256 x → knownHead family x ≡ true → image w (readImage w x) ≡ x
   unfolding image readImage
-  write-image x size b known =
+  write-image family x size b known =
       let n = placesSize w in
-      let packed : length (part 33 n x) ≡ n = length-part 33 n x (omega arith) in
-      rw (octets-back (part 33 n x) packed (below-part 256 33 n x (omega arith) b), meet 17 16 n x, meet 1 16 (16 + n) x)
-      (ap₂ (λ (d : ℕ) (l : Octets). d ∷ l) (head (getD x 0 0) known) (take-all (16 + (16 + n)) (drop 1 x) (simp length-drop (omega arith)))
-      ∙ sym (drop-cons x 0 0 (omega arith)))
-    where
-      head : (d : ℕ) → d / 16 ≡ edition → 16 * edition + d % 16 ≡ d
-      head d h = omega arith
-
--- where neither of two tests refuses
-unrefused : (p q : Bool) (a b c : Read) → (a .refusal ≡ 0 → ⊥) → (b .refusal ≡ 0 → ⊥) → cond (not p) a (cond (not q) b c) .refusal ≡ 0
-    → (p ≡ true) × (q ≡ true)
-unrefused true true a b c f g e = (refl, refl)
-unrefused true false a b c f g e = absurd (g e)
-unrefused false q a b c f g e = absurd (f e)
+      ap₂ (λ (a c : Octets). a ++ c) (write-head family x known (omega arith))
+      (octets-back (part 33 n x) (length-part 33 n x (omega arith)) (below-part 256 33 n x (omega arith) b))
+      ∙ meet 0 33 n x
+      ∙ whole x (33 + n) size
 
 -- ---- the answers, for any family whose known sets have 4 bits
 
 module _ (w : ℕ) (family : Family) (filled : seqBits w * indices w ≡ 8 * placesSize w) (few : (set : ℕ) → family .known set ≡ true → set < 16) where
   known-image : (usim : Usim) → family .known (usim .keys .set) ≡ true → knownHead family (image w usim) ≡ true
-  unfolding image knownHead
-  known-image usim known =
-      let set = usim .keys .set in
-      let small : set < 16 = few set known in
-      let first : (16 * edition + set) / 16 ≡ edition = omega arith in
-      let second : (16 * edition + set) % 16 ≡ set = omega arith in
-      rw (eq-eqb ((16 * edition + set) / 16) edition first, second) known
+  unfolding image
+  known-image usim known = known-head (usim .keys) _ (few (usim .keys .set) known) family known
 
   pub read-written : (usim : Usim) (buffer : Octets) → Sized w usim → validUsim w family usim ≡ true → length buffer ≡ imageSize w
       → readAnswer w family (writeAnswer w family usim buffer .image) ≡ record { refusal = 0; usim = usim }
@@ -128,13 +97,7 @@ module _ (w : ℕ) (family : Family) (filled : seqBits w * indices w ≡ 8 * pla
   module _ (x : Octets) (read : readAnswer w family x .refusal ≡ 0) where
     tests : (eqb (length x) (imageSize w) ≡ true) × (knownHead family x ≡ true)
     unfolding readAnswer
-    tests = unrefused (eqb (length x) (imageSize w)) (knownHead family x) _ _ _ (λ e. omega arith) (λ e. omega arith) read
-
-    head : (getD x 0 0 / 16 ≡ edition) × (family .known (getD x 0 0 % 16) ≡ true)
-    unfolding knownHead
-    head =
-        let both = and-eq-true-iff (eqb (getD x 0 0 / 16) edition) (family .known (getD x 0 0 % 16)) .0 (tests .1) in
-        (eqb-true (getD x 0 0 / 16) edition (both .0), both .1)
+    tests = unrefused (λ (r : Read). r .refusal) (eqb (length x) (imageSize w)) (knownHead family x) _ _ _ (λ e. omega arith) (λ e. omega arith) read
 
     answer : readAnswer w family x ≡ record { refusal = 0; usim = readImage w x }
     unfolding readAnswer
@@ -142,7 +105,7 @@ module _ (w : ℕ) (family : Family) (filled : seqBits w * indices w ≡ 8 * pla
 
     valid : validUsim w family (readImage w x) ≡ true
     unfolding validUsim readImage
-    valid = rw (head .1) (below-within (seqBits w) _ (digits-below (2 ^ seqBits w) (indices w) (decode (part 33 (placesSize w) x)) (pow-pos (seqBits w))))
+    valid = rw (known-set family x (tests .1)) (below-within (seqBits w) _ (digits-below (2 ^ seqBits w) (indices w) (decode (part 33 (placesSize w) x)) (pow-pos (seqBits w))))
 
   pub written-read : (x buffer : Octets) → Below 256 x → readAnswer w family x .refusal ≡ 0 → length buffer ≡ imageSize w
       → writeAnswer w family (readAnswer w family x .usim) buffer ≡ record { refusal = 0; image = x }
@@ -150,7 +113,7 @@ module _ (w : ℕ) (family : Family) (filled : seqBits w * indices w ≡ 8 * pla
   written-read x buffer b read size =
       rw (answer x read, valid x read, eq-eqb (length buffer) (imageSize w) size)
       (ap (λ (y : Octets). record { refusal = 0; image = y })
-      (write-image w filled x (eqb-true (length x) (imageSize w) (tests x read .0)) b (head x read .0)))
+      (write-image w filled family x (eqb-true (length x) (imageSize w) (tests x read .0)) b (tests x read .1)))
 
 -- ---- document 01's index width and function sets
 

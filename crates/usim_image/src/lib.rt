@@ -1,29 +1,23 @@
 // The packed image of a USIM (document 01: card), most significant bit first: edition and set in 4 bits each, K, OPc, and the places by
 // index.
-use functions::Keys;
 use usim::Usim;
 ghost use mathlib.Core.Bool.{true};
 ghost use mathlib.Core.List.{_++_};
 ghost use mathlib.Core.Path.{_≡_};
-ghost use Prim.Native.Nat.{_+_, _^_, _≤_};
+ghost use Prim.Native.Nat.{_^_};
 ghost use lib.ListN.{length, take};
 ghost use Rattle.octets.specs.Octets.{Below, decode, digits, encode, number};
 ghost use Rattle.functions.specs.Sets.{sets};
-ghost use Rattle.aka.specs.Layout.{keySize};
 ghost use Rattle.aka.specs.Sequence.{indices};
 ghost use Rattle.aka.specs.Usim.{validUsim};
 ghost use Rattle.usim.specs.Views.{usimOf};
-ghost use Rattle.usim_image.specs.Image.{image as imageOf, imageSize, placesAt, placesSize, readAnswer, readImage, seqBits, unread, writeAnswer};
-ghost use Rattle.usim_image.specs.Views.{readOf, writtenOf};
+ghost use Rattle.image_parts.specs.Head.{seqBits};
+ghost use Rattle.image_parts.specs.Written.{writtenOf};
+ghost use Rattle.usim_image.specs.Image.{image as imageOf, imageSize, placesAt, placesSize, readAnswer, readImage, unread, writeAnswer};
+ghost use Rattle.usim_image.specs.Views.{readOf};
 
-const EDITION: u8 = 1;
-
-// Where K, OPc and the places begin.
-const K: usize = 1;
-
-const OPC: usize = K + 16;
-
-const PLACES: usize = OPC + 16;
+// Where the places begin.
+const PLACES: usize = 33;
 
 // The octets of the places.
 const PLACES_SIZE: usize = 172;
@@ -38,14 +32,6 @@ const SEQ_BITS: u64 = 43;
 pub struct Answer {
     pub refusal: u8,
     pub usim: Usim,
-}
-
-// Puts K or OPc into an image, from `at` on. What stands before stays.
-fn put_key(image: &mut [u8], at: usize, key: [u8; 16])
-    requires { ⌜ at + keySize ≤ length (now image) ⌝ }
-    ensures { λ _. ⌜ take (at + keySize) (now (image .exit)) ≡ take at (now (image .entry)) ++ key ⌝ }
-{
-    bytes::copy(&key, &mut image[at..]);
 }
 
 // Puts the places into an image. What stands before stays.
@@ -66,12 +52,8 @@ fn fill(usim: Usim, image: &mut [u8])
     ensures { λ _. ⌜ now (image .exit) ≡ imageOf 5 (usimOf usim) ⌝ }
 {
     let keys = usim.keys;
-    let k = keys.k;
-    let opc = keys.opc;
     let places = usim.places;
-    image[0] = 16 * EDITION + keys.set;
-    put_key(image, K, k);
-    put_key(image, OPC, opc);
+    image_parts::put_head(image, keys);
     put_places(image, places);
 }
 
@@ -106,13 +88,8 @@ fn unpack(image: &[u8]) -> Usim
     requires { ⌜ length (now image) ≡ imageSize 5 ⌝ }
     ensures { λ r. ⌜ usimOf r ≡ readImage 5 (now (image .entry)) ⌝ }
 {
-    let keys = Keys {
-        set: image[0] % 16,
-        k: octets::sixteen(&image[K..OPC]),
-        opc: octets::sixteen(&image[OPC..PLACES]),
-    };
     Usim {
-        keys,
+        keys: image_parts::keys_in(image),
         places: unpack_places(&image[PLACES..]),
     }
 }
@@ -121,14 +98,9 @@ fn unpack(image: &[u8]) -> Usim
 fn refused(number: u8) -> Answer
     ensures { λ r. ⌜ readOf r ≡ unread 5 number ⌝ }
 {
-    let keys = Keys {
-        set: 0,
-        k: [0; 16],
-        opc: [0; 16],
-    };
     Answer {
         refusal: number,
-        usim: usim::new(keys),
+        usim: usim::new(image_parts::no_keys()),
     }
 }
 
@@ -139,11 +111,7 @@ pub fn read(image: &[u8]) -> Answer
     if image.len() != SIZE {
         return refused(3);
     }
-    let head = image[0];
-    if head / 16 != EDITION {
-        return refused(1);
-    }
-    if !functions::is_known(head % 16) {
+    if !image_parts::is_known(image) {
         return refused(1);
     }
     Answer {

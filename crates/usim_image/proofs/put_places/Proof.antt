@@ -3,7 +3,7 @@ use native.Mathlib.Omega.{arith}
 use lib.ListN.{length-take, length-drop}
 use Rattle.packing.specs.Packing.{repacked}
 use Rattle.packing.proofs.Repacked.{repacked-below}
-use Rattle.usim_image.proofs.Filling.{put-last}
+use Rattle.image_parts.proofs.Filling.{put-last}
 use borrow.Author.Needs.{needs}
 use Rattle.usim_image.proofs.put_places.Statement.{statement}
 use Rattle.usim_image.proofs.put_places.Tie as tie

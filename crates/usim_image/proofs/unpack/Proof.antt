@@ -1,7 +1,7 @@
--- `unpack` reads each part. Assumes nothing.
-use Prim.Native.Nat.{ℕ, _-_, _%_, _^_}
+-- `unpack` reads head and places. Assumes nothing.
+use Prim.Native.Nat.{ℕ, _-_, _^_}
 use mathlib.Core.Path.{ap, _∙_}
-use lib.ListN.{drop, getD, take}
+use lib.ListN.{drop, take}
 use Rattle.octets.specs.Octets.{decode, digits}
 use Rattle.usim_image.specs.Image.{readImage}
 use borrow.Author.Needs.{needs}
@@ -11,10 +11,11 @@ use Rattle.usim_image.proofs.unpack.Tie as tie
 returns : tie.Need-returns
 unfolding readImage
 returns c =
-    let entry = c .before .before .before .before .before .before .before .before in
+    let head = c .before .before in
+    let entry = head .before .before in
     let x = entry .args .image .now in
     λ i. record {
-      keys = record { set = getD x 0 0 % 16; k = c .before .before .before .before .sixteen .ensures i; opc = c .before .before .sixteen2 .ensures i };
+      keys = head .keys-in .ensures i;
       places = (c .unpack-places .ensures ∙ ap (λ (n : ℕ). digits (2 ^ 43) 32 (decode (take (n - 33) (drop 33 x)))) (entry .pre)) i;
     }
 
@@ -22,6 +23,4 @@ pub unpack-spec : {M : Type 1} → statement M
 unpack-spec =
     tie.close
     (tie.spec
-    (λ c. search needs) (λ c. search needs) (λ c. search needs) (λ c. search needs) (λ c κs. search needs)
-    (λ c. search needs) (λ c. search needs) (λ c. search needs) (λ c κs. search needs) (λ c. search needs)
-    (λ c. search needs) (λ c. search needs) (λ c κs. search needs) returns)
+    (λ c κs. search needs) (λ c. search needs) (λ c. search needs) (λ c. search needs) (λ c κs. search needs) returns)

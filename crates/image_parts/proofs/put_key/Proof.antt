@@ -1,9 +1,9 @@
 -- `put_key` fills one part. Assumes nothing.
 use native.Mathlib.Omega.{arith}
-use Rattle.usim_image.proofs.Filling.{put-part}
+use Rattle.image_parts.proofs.Filling.{put-part}
 use borrow.Author.Needs.{needs}
-use Rattle.usim_image.proofs.put_key.Statement.{statement}
-use Rattle.usim_image.proofs.put_key.Tie as tie
+use Rattle.image_parts.proofs.put_key.Statement.{statement}
+use Rattle.image_parts.proofs.put_key.Tie as tie
 
 returns : tie.Need-returns
 returns c =

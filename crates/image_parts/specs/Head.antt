@@ -1,0 +1,42 @@
+-- The head of a packed image (document 01, 'Numbers and records'): edition and set in the first octet, then K and OPc. USIM and AuC share it.
+-- Assumes nothing: these are definitions.
+use Prim.Native.Nat.{ℕ, _+_, _-_, _*_, _/_, _%_}
+use mathlib.Core.Bool.{Bool, _&&_}
+use mathlib.Core.List.{_∷_, _++_}
+use lib.Dec.{eqb}
+use lib.ListN.{getD}
+use Rattle.octets.specs.Octets.{Octets, zeros, part}
+use Rattle.aka.specs.Layout.{keySize}
+use Rattle.aka.specs.Functions.{Keys, Family}
+
+abbrev pub edition : ℕ
+edition = 1
+
+abbrev pub kAt : ℕ
+kAt = 1
+
+abbrev pub opcAt : ℕ
+opcAt = kAt + keySize
+
+abbrev pub headSize : ℕ
+headSize = opcAt + keySize
+
+-- the bits of a SEQ, where the index has `w` bits
+abbrev pub seqBits : (w : ℕ) → ℕ
+seqBits w = 48 - w
+
+-- edition and set have 4 bits each
+unfoldable pub head : Keys → Octets
+head keys = (16 * edition + keys .set) ∷ (keys .k ++ keys .opc)
+
+-- set, K and OPc in an image
+unfoldable pub keysIn : Octets → Keys
+keysIn x = record { set = getD x 0 0 % 16; k = part kAt keySize x; opc = part opcAt keySize x }
+
+-- edition and set of an image are known
+unfoldable pub knownHead : Family → (x : Octets) → Bool
+knownHead family x = eqb (getD x 0 0 / 16) edition && family .known (getD x 0 0 % 16)
+
+-- what a refused reading answers
+abbrev pub noKeys : Keys
+noKeys = record { set = 0; k = zeros keySize; opc = zeros keySize }
