@@ -60,7 +60,7 @@ module _ (w : ℕ) (family : Family) (auc : Auc) (count₀ : ℕ) (rands buffer 
   batch = batchFrom w family auc start rands n
 
   abbrev sent : AucAnswer
-  sent = record { outcome = outcome; auc = after w auc start n; batch = batch }
+  sent = record { outcome = outcome; n = n; auc = after w auc start n; batch = batch }
 
   L : Lengths F
   L = s .lawful .lengths (auc .keys) (valid-iff w family auc .0 (s .asking .valid) .0) (s .keys)
@@ -98,6 +98,7 @@ module _ (w : ℕ) (family : Family) (auc : Auc) (count₀ : ℕ) (rands buffer 
   sends : Sends w family auc count₀ rands buffer start sent
   unfolding makeVector
   sends = record {
+    vectors = refl;
     size = size;
     rand = λ k h. ap (λ (v : Vector). v .rand) (vector-is k h);
     xres = λ k h. ap (λ (v : Vector). v .xres) (vector-is k h);
@@ -178,8 +179,8 @@ module _ (w : ℕ) (family : Family) (auc : Auc) where
     stays-with count given h = absurd (h refl)
     stays-with count kept h = absurd (h refl)
     stays-with count reset h = absurd (h refl)
-    stays-with count (refused number) h = record { same-auc = refl; same-buffer = refl }
-    stays-with count (repeated i j) h = record { same-auc = refl; same-buffer = refl }
+    stays-with count (refused number) h = record { none = refl; same-auc = refl; same-buffer = refl }
+    stays-with count (repeated i j) h = record { none = refl; same-auc = refl; same-buffer = refl }
 
     after-valid : validAuc w family auc ≡ true → start + n ≤ limit w → validAuc w family (after w auc start n) ≡ true
     unfolding validAuc

@@ -75,6 +75,7 @@ module _ (w : ℕ) (hw : w ≤ 48) (family : Family) (lawful : Lawful family) (s
   -- so it sends the batch counted from `st`
   renewal-is : renewal w family s ≡ record {
     outcome = cond (inRange (s .auc .seqhe) ms N) kept reset;
+    n = N;
     auc = after w (s .auc) st N;
     batch = batchFrom w family (s .auc) st (s .rands) N;
   }

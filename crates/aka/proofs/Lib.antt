@@ -1,3 +1,4 @@
+pub mod VlrWitnesses
 pub mod Layouts
 pub mod Sequence
 pub mod Places
@@ -5,11 +6,15 @@ pub mod Tokens
 pub mod Verdicts
 pub mod Failures
 pub mod Pairs
+pub mod Held
+pub mod Replies
 pub mod Steps
 pub mod Batches
 pub mod Outcomes
 pub mod UsimLaws
 pub mod AucLaws
+pub mod VlrLaws
+pub mod OrderOfUse
 pub mod Rising
 pub mod Demand3
 pub mod Table

@@ -92,6 +92,7 @@ module _ (w : ℕ) (family : Family) (auc : Auc) where
     -- a batch is given
     pub order-given : auc .seqhe + countOf count ≤ limit w → order w family auc count rands buffer ≡ record {
       outcome = given;
+      n = countOf count;
       auc = after w auc (auc .seqhe) (countOf count);
       batch = batchFrom w family auc (auc .seqhe) rands (countOf count);
     }
@@ -118,6 +119,7 @@ module _ (w : ℕ) (family : Family) (auc : Auc) where
       abbrev pub sentWith : Outcome → AucAnswer
       sentWith outcome = record {
         outcome = outcome;
+        n = n;
         auc = after w auc (startOf (auc .seqhe) ms n) n;
         batch = batchFrom w family auc (startOf (auc .seqhe) ms n) rands n;
       }

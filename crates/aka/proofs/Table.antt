@@ -104,6 +104,7 @@ module _ (family : Family) (lawful : Lawful family) (x : Sample) (p : Proper fam
   module _ (he : ℕ) (h : he ≤ limit 5) (room : startOf he 100 5 + 5 ≤ limit 5) where
     resync-row : resynced family x he ≡ record {
       outcome = cond (inRange he 100 5) kept reset;
+      n = 5;
       auc = after 5 (aucWith family x he) (startOf he 100 5) 5;
       batch = batchFrom 5 family (aucWith family x he) (startOf he 100 5) (x .rands) 5;
     }

@@ -129,6 +129,7 @@ secondOf (repeated i j) = j
 
 pub record AucAnswer : Type 0 where
   pub outcome : Outcome
+  pub n : ℕ  -- the number of vectors given, 0 with a refusal
   pub auc : Auc  -- the next record
   pub batch : Octets  -- what the buffer lent for the batch holds at the end
 
@@ -176,11 +177,11 @@ module _ (w : ℕ) (family : Family) (auc : Auc) where
 
   -- what goes with each outcome: next record and batch, or record and buffer as they were
   unfoldable pub answerWith : (start : ℕ) (rands : Octets) (n : ℕ) (buffer : Octets) → Outcome → AucAnswer
-  answerWith start rands n buffer given = record { outcome = given; auc = after w auc start n; batch = batchFrom start rands n }
-  answerWith start rands n buffer kept = record { outcome = kept; auc = after w auc start n; batch = batchFrom start rands n }
-  answerWith start rands n buffer reset = record { outcome = reset; auc = after w auc start n; batch = batchFrom start rands n }
-  answerWith start rands n buffer (refused number) = record { outcome = refused number; auc = auc; batch = buffer }
-  answerWith start rands n buffer (repeated i j) = record { outcome = repeated i j; auc = auc; batch = buffer }
+  answerWith start rands n buffer given = record { outcome = given; n = n; auc = after w auc start n; batch = batchFrom start rands n }
+  answerWith start rands n buffer kept = record { outcome = kept; n = n; auc = after w auc start n; batch = batchFrom start rands n }
+  answerWith start rands n buffer reset = record { outcome = reset; n = n; auc = after w auc start n; batch = batchFrom start rands n }
+  answerWith start rands n buffer (refused number) = record { outcome = refused number; n = 0; auc = auc; batch = buffer }
+  answerWith start rands n buffer (repeated i j) = record { outcome = repeated i j; n = 0; auc = auc; batch = buffer }
 
   -- a count, that many RANDs, and a buffer for the batch
   module _ (count : ℕ) (rands buffer : Octets) where

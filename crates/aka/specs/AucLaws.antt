@@ -73,6 +73,7 @@ module _ (w : ℕ) (family : Family) (auc : Auc) (count : ℕ) (rands buffer : O
     vec k = vectorAt (answer .batch) k
 
     pub record Sends : Type 0 where
+      pub vectors : answer .n ≡ n
       pub size : length (answer .batch) ≡ vectorSize * n
       -- RAND as lent, and XRES, CK, IK of it
       pub rand : (k : ℕ) → k < n → vec k .rand ≡ randAt rands k
@@ -94,8 +95,9 @@ module _ (w : ℕ) (family : Family) (auc : Auc) (count : ℕ) (rands buffer : O
       pub same-keys : answer .auc .keys ≡ auc .keys
       pub same-amf : answer .auc .amf ≡ auc .amf
 
-  -- 'Record and lent buffers stay as they were'
+  -- 'Record and lent buffers stay as they were; every other field of the answer .. is zero'
   pub record Stays (answer : AucAnswer) : Type 0 where
+    pub none : answer .n ≡ 0
     pub same-auc : answer .auc ≡ auc
     pub same-buffer : answer .batch ≡ buffer
 

@@ -37,8 +37,8 @@ pub record Step : Type 0 where
   pub last : Option ℕ
   pub answer : UsimAnswer
 
--- P is true of each step of a list
-abbrev pub Each : (Step → Type 0) → List Step → Type 0
+-- P is true of each element of a list
+abbrev pub Each : {A : Type 0} → (A → Type 0) → List A → Type 0
 Each P [] = Unit {0}
 Each P (s ∷ rest) = P s × Each P rest
 

@@ -1,17 +1,21 @@
--- Authentication and key agreement (TS 33.102 §6.3) on paper: what USIM and AuC do, and what is promised of them. Read in this order:
+-- Authentication and key agreement (TS 33.102 §6.3) on paper: what USIM, AuC and VLR do, and what is promised of them. Read in this order:
 --   Layout      octets of AUTN, AUTS and a vector; parts of lent octets
 --   Functions   f1 to f5*, the keys, and the laws of a family of function sets
 --   Sequence    SQN, SEQ, IND, the limit, D
 --   Usim        the card: its record and its answer to a challenge
 --   Auc         the centre: its record, an order, a resynchronisation
+--   Vlr         the node: its record and its nine operations
 --   Demand3     after a synchronisation failure and a resynchronisation the USIM accepts the new batch
 --   Table       the worked table of document 01
---   UsimLaws, AucLaws    the other sentences of document 01 on card and centre, as laws
+--   Calls       the nine operations of the node as one
+--   UsimLaws, AucLaws, VlrLaws    the other sentences of document 01 on card, centre and node, as laws
+--   OrderOfUse  over every list of calls the node uses each vector once, oldest first, and holds what was stored and not used
 --
 -- How to read a definition. `f : A → B` says that f takes an A and gives a B; `f a b` applies it. `pub`, `abbrev` and `unfoldable` only say who
 -- may use and open a definition. An octet string is a list of numbers, the first octet first: `[]` is the empty list, `x ∷ l` the list l with x
 -- before it, `x ++ y` one string behind another, `part start size x` the `size` octets from place `start` on, `getD l i 0` the element at place i
--- (0 where there is none), `set l i x` the list with x at place i. `encode n x` is the number x in n octets, `decode` reads it.
+-- (0 where there is none), `set l i x` the list with x at place i, `take n x` the first n octets, `drop n x` those behind them, `zeros n` n octets
+-- of value 0. `encode n x` is the number x in n octets, `decode` reads it.
 -- Tests give true or false: `eqb` equal, `ltb` below, `leb` at most, `equal` of strings; `&&` and, `||` or, `not`. `cond test a b` is a where the
 -- test passes, else b: a chain of them reads from the top, and the first test that passes decides. Numbers are whole and not negative: `-` stops
 -- at 0; `/` and `%` are quotient and remainder. A `data` type is one of its cases; a `record` has named fields, `r .field`.
@@ -22,7 +26,11 @@ pub mod Functions
 pub mod Sequence
 pub mod Usim
 pub mod Auc
+pub mod Vlr
+pub mod Calls
 pub mod Demand3
 pub mod Table
 pub mod UsimLaws
 pub mod AucLaws
+pub mod VlrLaws
+pub mod OrderOfUse
