@@ -4,7 +4,7 @@ use crate::block::Block;
 use crate::functions::Subscriber;
 use crate::image::{self, LENGTH};
 use crate::random::Random;
-use crate::text::write_hex;
+use crate::text::{write_bytes, write_hex};
 use crate::usim::{sqn, sqn_bytes, Card, D, PLACES, SEQ_LIMIT};
 
 /// The length of every challenge whose parts have the right lengths.
@@ -17,20 +17,13 @@ pub const OPC: usize = 3;
 pub const BUFFER: usize = 4;
 pub const FIRST_PLACE: usize = 5;
 
-pub fn bytes_field(bytes: &[u8]) -> Vec<u8> {
-    match bytes {
-        [] => b"-".to_vec(),
-        _ => write_hex(bytes),
-    }
-}
-
 pub fn challenge(image: &[u8], rand: &[u8], autn: &[u8]) -> Vec<u8> {
-    let fields = [image, rand, autn].map(bytes_field);
+    let fields = [image, rand, autn].map(write_bytes);
     [b"challenge ", &fields.join(&b' ')[..]].concat()
 }
 
 pub fn card_read(image: &[u8]) -> Vec<u8> {
-    [b"card-read ", &bytes_field(image)[..]].concat()
+    [b"card-read ", &write_bytes(image)[..]].concat()
 }
 
 /// The fields of a `card-write`; edges exchange some of them.

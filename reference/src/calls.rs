@@ -1,105 +1,67 @@
 //! What `calls` prints: each line is one public call, a word and its fields.
 
 use crate::functions::Subscriber;
-use crate::image;
-use crate::text::{self, read_bytes, read_hex, read_number, write_hex, BAD_LINE};
-use crate::usim::{Answer, Card, Refusal, Verdict};
+use crate::text::{self, read_hex, read_number, write_hex, BAD_LINE};
+use crate::usim::Refusal;
+use crate::vlr::Node;
+use crate::{auc_calls, card_calls, node_calls};
 
 /// The most bytes that a line may have.
 pub const LONGEST: usize = 4_096;
 
-/// The longest buffer that `card-write` lends.
+/// The longest buffer that a line lends.
 pub const LARGEST_BUFFER: u64 = 512;
 
 pub fn answers(input: &[u8]) -> Vec<u8> {
-    text::answers(input, answer)
+    let mut node = Node::new();
+    text::answers(input, |line| answer_with(&mut node, line))
 }
 
-/// The answer to one line, without its newline.
+/// The answer to one line, without its newline, where the node is new.
 pub fn answer(line: &[u8]) -> Vec<u8> {
+    answer_with(&mut Node::new(), line)
+}
+
+/// The node is all that is kept from one line to the next.
+pub fn answer_with(node: &mut Node, line: &[u8]) -> Vec<u8> {
     match line.len() {
-        0..=LONGEST => call(line).unwrap_or_else(|| BAD_LINE.to_vec()),
+        0..=LONGEST => call(node, line).unwrap_or_else(|| BAD_LINE.to_vec()),
         _ => BAD_LINE.to_vec(),
     }
 }
 
-/// All fields are read before the call is made, so that a line of another form
-/// is a bad line even where the call would be refused.
-fn call(line: &[u8]) -> Option<Vec<u8>> {
+/// All fields are read before a call is made, so that a line of another form is
+/// a bad line even where the call would be refused.
+fn call(node: &mut Node, line: &[u8]) -> Option<Vec<u8>> {
     let fields: Vec<&[u8]> = line.split(|&b| b == b' ').collect();
-    let printed = match fields[..] {
-        [b"challenge", image, rand, autn] => {
-            challenge(&read_bytes(image)?, &read_bytes(rand)?, &read_bytes(autn)?)
-        }
-        [b"card-read", image] => card_read(&read_bytes(image)?),
-        [b"card-write", set, k, opc, length, ref places @ ..] => {
-            card_write(&read_card([set, k, opc], places)?, read_length(length)?)
-        }
-        _ => return None,
-    };
-    Some(printed.unwrap_or_else(write_refusal))
+    card_calls::call(&fields)
+        .or_else(|| auc_calls::call(&fields))
+        .or_else(|| node_calls::call(node, &fields))
 }
 
-fn challenge(image: &[u8], rand: &[u8], autn: &[u8]) -> Result<Vec<u8>, Refusal> {
-    let answer = image::read(image)?.challenge(rand, autn);
-    match answer.verdict {
-        Verdict::Accepted { sqn } => write_accepted(sqn, &answer),
-        Verdict::Sync => Ok([b"sync ", &write_hex(&answer.auts)[..]].concat()),
-        Verdict::Mac => Ok(b"mac".to_vec()),
-        Verdict::Refused(refusal) => Err(refusal),
-    }
-}
-
-fn card_read(image: &[u8]) -> Result<Vec<u8>, Refusal> {
-    let Card { subscriber, places } = image::read(image)?;
-    let mut fields = vec![
-        b"card".to_vec(),
-        write_number(subscriber.set.into()),
-        write_hex(&subscriber.k),
-        write_hex(&subscriber.opc),
-    ];
-    fields.extend(places.map(write_number));
-    Ok(fields.join(&b' '))
-}
-
-fn card_write(card: &Card, length: usize) -> Result<Vec<u8>, Refusal> {
-    let mut buffer = vec![0; length];
-    image::write(card, &mut buffer)?;
-    Ok([b"image ", &write_hex(&buffer)[..]].concat())
-}
-
-fn read_card([set, k, opc]: [&[u8]; 3], places: &[&[u8]]) -> Option<Card> {
-    let places: Option<Vec<u64>> = places.iter().map(|place| read_number(place)).collect();
-    let subscriber = Subscriber {
-        set: read_number(set)?.try_into().ok()?,
+pub fn read_subscriber([set, k, opc]: [&[u8]; 3]) -> Option<Subscriber> {
+    Some(Subscriber {
+        set: read_small(set)?,
         k: read_hex(k)?,
         opc: read_hex(opc)?,
-    };
-    let places = places?.try_into().ok()?;
-    Some(Card { subscriber, places })
+    })
 }
 
-fn read_length(field: &[u8]) -> Option<usize> {
+/// A number of at most 255.
+pub fn read_small(field: &[u8]) -> Option<u8> {
+    read_number(field)?.try_into().ok()
+}
+
+/// The length of a buffer to be lent.
+pub fn read_length(field: &[u8]) -> Option<usize> {
     let length = read_number(field)?;
     (length <= LARGEST_BUFFER).then_some(length as usize)
 }
 
-fn write_accepted(sqn: u64, answer: &Answer) -> Result<Vec<u8>, Refusal> {
-    let fields = [
-        b"accepted".to_vec(),
-        write_number(sqn),
-        write_hex(&answer.res),
-        write_hex(&answer.ck),
-        write_hex(&answer.ik),
-        write_hex(&image::image(&answer.card)?),
-    ];
-    Ok(fields.join(&b' '))
+pub fn write_image(image: &[u8]) -> Vec<u8> {
+    [b"image ", &write_hex(image)[..]].concat()
 }
 
-fn write_refusal(Refusal(number): Refusal) -> Vec<u8> {
+pub fn write_refusal(Refusal(number): Refusal) -> Vec<u8> {
     format!("refused {number}").into_bytes()
-}
-
-fn write_number(number: u64) -> Vec<u8> {
-    number.to_string().into_bytes()
 }

@@ -79,7 +79,7 @@ const SHORT: [&[u8]; 64] = [
 ];
 
 /// What no number is.
-const NO_NUMBERS: [&str; 16] = [
+pub const NO_NUMBERS: [&str; 16] = [
     "", "-", "--", "-1", "+1", "1.0", "1,0", "0x1", "1e3", "a", "1a", "A", "1_0", "/", ":", "1\r",
 ];
 

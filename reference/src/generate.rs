@@ -5,7 +5,8 @@ use std::collections::VecDeque;
 
 use crate::damage::{self, places, STRANGE};
 use crate::random::Random;
-use crate::{aes_vectors, calls, function_vectors, published};
+use crate::{aes_vectors, bench, calls, function_vectors, published};
+use crate::{auc_form_lines, auc_image_lines, batch_lines, bench_lines, node_lines};
 use crate::{call_lines, challenge_lines, form_lines, image_lines};
 
 /// The size of the pieces in which a program may read its input. Lines are
@@ -78,11 +79,18 @@ fn function_line(set: u8, random: &mut Random) -> Vec<u8> {
     [&[set, b' '], &fields.join(&b' ')[..]].concat()
 }
 
+/// Whether the calls have lines for the node.
+#[derive(Clone, Copy, PartialEq, Eq)]
+pub enum NodeLines {
+    With,
+    Without,
+}
+
 /// Every file, by its path below the chosen folder.
-pub fn files() -> Vec<(&'static str, Vec<u8>)> {
+pub fn files(node_lines: NodeLines) -> Vec<(&'static str, Vec<u8>)> {
     let aes = input(&AES, aes_published());
     let function = input(&FUNCTION, function_published());
-    let calls = calls_input();
+    let calls = calls_input(node_lines);
     let aes_answers = aes_vectors::answers(&aes);
     let function_answers = function_vectors::answers(&function);
     let calls_answers = calls::answers(&calls);
@@ -93,6 +101,18 @@ pub fn files() -> Vec<(&'static str, Vec<u8>)> {
         ("function_vectors/stdout", function_answers),
         ("calls/stdin", calls),
         ("calls/stdout", calls_answers),
+    ]
+}
+
+/// The files of the bench, likewise.
+pub fn bench_files() -> Vec<(&'static str, Vec<u8>)> {
+    let (run, more) = (bench_lines::run(), bench_lines::more());
+    let (run_answers, more_answers) = (bench::answers(&run), bench::answers(&more));
+    vec![
+        ("bench/stdin", run),
+        ("bench/stdout", run_answers),
+        ("bench_more/stdin", more),
+        ("bench_more/stdout", more_answers),
     ]
 }
 
@@ -137,7 +157,7 @@ fn input(shape: &Shape, published: Vec<String>) -> Vec<u8> {
 }
 
 /// Calls are long: to leave room for them only one line takes a whole piece.
-fn calls_input() -> Vec<u8> {
+fn calls_input(node_lines: NodeLines) -> Vec<u8> {
     let length = CALLS.length;
     let mut input = Input::new(&CALLS);
     for line in challenge_lines::published() {
@@ -156,7 +176,22 @@ fn calls_input() -> Vec<u8> {
     input.push_good();
     input.fill_to(5 * PIECE - length);
     input.push_good();
+    input.due.extend(centre_lines());
+    if node_lines == NodeLines::With {
+        input.due.extend(node_lines::lines());
+    }
     input.finish()
+}
+
+/// The lines for the centre, which come after those for the card. They have
+/// random numbers of their own, and so have those for the node.
+fn centre_lines() -> Vec<Vec<u8>> {
+    let mut random = Random::new(33_103);
+    let mut lines = batch_lines::published(&mut random);
+    lines.extend(batch_lines::edges(&mut random));
+    lines.extend(auc_image_lines::edges(&mut random));
+    lines.extend(auc_form_lines::edges(&mut random));
+    lines
 }
 
 /// The input as far as it is written, and the lines that are still to come.

@@ -8,8 +8,8 @@ use crate::image::LENGTH;
 use crate::random::Random;
 use crate::usim::{sqn, Card, PLACES, SEQ_LIMIT};
 
-/// Numbers at the limits of a place and of a field.
-const NUMBERS: [&str; 15] = [
+/// Numbers at the limits of a SEQ and of a field.
+pub const NUMBERS: [&str; 15] = [
     "0",
     "8796093022207",
     "8796093022208",

@@ -1,14 +1,27 @@
 //! The independent second program of Vetrhoss.
 //!
 //! It is written from FIPS 197, TS 35.206 and the project's own rules for the
-//! test set and the card alone, in the plainest form, so that its answers can
-//! be compared with those of the proved implementation.
+//! test set, the card, the centre, the node and the bench alone, in the plainest
+//! form, so that its answers can be compared with those of the proved
+//! implementation.
 
 pub mod aes;
 pub mod aes_vectors;
+pub mod auc;
+pub mod auc_call_lines;
+pub mod auc_calls;
+pub mod auc_form_lines;
+pub mod auc_image;
+pub mod auc_image_lines;
+pub mod batch_lines;
+pub mod bench;
+pub mod bench_form_lines;
+pub mod bench_lines;
+pub mod bits;
 pub mod block;
 pub mod call_lines;
 pub mod calls;
+pub mod card_calls;
 pub mod challenge_lines;
 pub mod damage;
 pub mod form_lines;
@@ -18,8 +31,12 @@ pub mod generate;
 pub mod image;
 pub mod image_lines;
 pub mod milenage;
+pub mod node_calls;
+pub mod node_lines;
 pub mod published;
 pub mod random;
 pub mod test_set;
 pub mod text;
 pub mod usim;
+pub mod vector;
+pub mod vlr;

@@ -4,9 +4,13 @@ use std::io::{self, Read, Write};
 use std::path::Path;
 use std::process::ExitCode;
 
-use reference::{aes_vectors, calls, function_vectors, generate};
+use reference::generate::NodeLines;
+use reference::{aes_vectors, bench, calls, function_vectors, generate};
 
-const USAGE: &str = "usage: reference aes-vectors | function-vectors | calls | generate DIR";
+const USAGE: &str = "\
+usage: reference aes-vectors | function-vectors | calls | bench
+       reference generate [--no-node] DIR
+       reference generate-bench DIR";
 
 fn main() -> ExitCode {
     let arguments: Vec<_> = std::env::args_os().skip(1).collect();
@@ -15,7 +19,17 @@ fn main() -> ExitCode {
         [Some("aes-vectors")] => answer(aes_vectors::answers),
         [Some("function-vectors")] => answer(function_vectors::answers),
         [Some("calls")] => answer(calls::answers),
-        [Some("generate"), _] => write_files(Path::new(&arguments[1])),
+        [Some("bench")] => answer(bench::answers),
+        [Some("generate-bench"), _] => {
+            write_files(&generate::bench_files(), Path::new(&arguments[1]))
+        }
+        [Some("generate"), Some("--no-node"), _] => write_files(
+            &generate::files(NodeLines::Without),
+            Path::new(&arguments[2]),
+        ),
+        [Some("generate"), folder] if folder != Some("--no-node") => {
+            write_files(&generate::files(NodeLines::With), Path::new(&arguments[1]))
+        }
         _ => {
             eprintln!("{USAGE}");
             return ExitCode::from(2);
@@ -39,8 +53,8 @@ fn answer(answers: fn(&[u8]) -> Vec<u8>) -> io::Result<()> {
     output.flush()
 }
 
-fn write_files(folder: &Path) -> io::Result<()> {
-    for (name, bytes) in generate::files() {
+fn write_files(files: &[(&str, Vec<u8>)], folder: &Path) -> io::Result<()> {
+    for (name, bytes) in files {
         let path = folder.join(name);
         if let Some(parent) = path.parent() {
             std::fs::create_dir_all(parent)?;

@@ -15,7 +15,7 @@ pub fn lines(input: &[u8]) -> Vec<&[u8]> {
 }
 
 /// One answer to each line of the input, every one ended by a newline.
-pub fn answers(input: &[u8], answer: fn(&[u8]) -> Vec<u8>) -> Vec<u8> {
+pub fn answers(input: &[u8], mut answer: impl FnMut(&[u8]) -> Vec<u8>) -> Vec<u8> {
     let mut output = Vec::new();
     for line in lines(input) {
         output.extend(answer(line));
@@ -71,6 +71,18 @@ pub fn read_number(field: &[u8]) -> Option<u64> {
         b'0'..=b'9' => number.checked_mul(10)?.checked_add(u64::from(digit - b'0')),
         _ => None,
     })
+}
+
+pub fn write_number(number: u64) -> Vec<u8> {
+    number.to_string().into_bytes()
+}
+
+/// Bytes of any number, `-` for none.
+pub fn write_bytes(bytes: &[u8]) -> Vec<u8> {
+    match bytes {
+        [] => b"-".to_vec(),
+        _ => write_hex(bytes),
+    }
 }
 
 /// Two lower-case hex digits for each byte.

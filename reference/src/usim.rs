@@ -12,7 +12,7 @@ pub const SEQ_LIMIT: u64 = 8_796_093_022_207;
 pub const D: u64 = 268_435_456;
 
 /// The AMF of every MAC-S, whatever the AMF of the challenge was.
-const AMF_OF_AUTS: [u8; 2] = [0, 0];
+pub const AMF_OF_AUTS: [u8; 2] = [0, 0];
 
 /// The number of a refusal.
 #[derive(Clone, Copy, Debug, PartialEq, Eq)]
@@ -68,7 +68,7 @@ pub fn sqn_bytes(sqn: u64) -> [u8; 6] {
     bytes
 }
 
-fn sqn_of_bytes(bytes: &[u8; 6]) -> u64 {
+pub fn sqn_of_bytes(bytes: &[u8; 6]) -> u64 {
     bytes
         .iter()
         .fold(0, |sqn, &byte| 256 * sqn + u64::from(byte))

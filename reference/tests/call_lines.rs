@@ -1,7 +1,7 @@
 //! The generated calls: what they must hold.
 
 use reference::calls;
-use reference::generate::{files, LONG, PIECE};
+use reference::generate::{files, NodeLines, LONG, PIECE};
 use reference::image::LENGTH;
 use reference::text::lines;
 
@@ -10,15 +10,16 @@ struct Calls {
     output: Vec<u8>,
 }
 
+fn file(node_lines: NodeLines, path: &str) -> Vec<u8> {
+    let mut found = files(node_lines).into_iter().filter(|(p, _)| *p == path);
+    found.next().expect("a file of this path").1
+}
+
 impl Calls {
     fn generated() -> Calls {
-        let file = |path| {
-            let mut found = files().into_iter().filter(|(p, _)| *p == path);
-            found.next().expect("a file of this path").1
-        };
         Calls {
-            input: file("calls/stdin"),
-            output: file("calls/stdout"),
+            input: file(NodeLines::With, "calls/stdin"),
+            output: file(NodeLines::With, "calls/stdout"),
         }
     }
 
@@ -72,10 +73,98 @@ fn every_answer_to_every_word() {
         ("challenge 11", "sync ", 30),
         ("challenge 10", "mac", 30),
         ("challenge 11", "mac", 30),
+        ("card-new ", "image ", 8),
+        ("card-new ", "refused 1", 16),
+        ("auc-new ", "image ", 8),
+        ("auc-new ", "refused 1", 16),
+        ("auc-read ", "auc ", 80),
+        ("auc-read ", "refused 1", 200),
+        ("auc-read ", "refused 3", 20),
+        ("auc-write ", "image ", 80),
+        ("auc-write ", "refused 1", 30),
+        ("auc-write ", "refused 3", 8),
+        ("order 10", "given ", 50),
+        ("order 11", "given ", 40),
+        ("order ", "refused 1", 10),
+        ("order ", "refused 2", 25),
+        ("order ", "refused 3", 90),
+        ("order ", "refused 4 ", 60),
+        ("order ", "refused 6", 15),
+        ("resync 10", "kept ", 80),
+        ("resync 11", "kept ", 80),
+        ("resync 10", "reset ", 40),
+        ("resync 11", "reset ", 40),
+        ("resync ", "refused 1", 10),
+        ("resync ", "refused 2", 20),
+        ("resync ", "refused 3", 90),
+        ("resync ", "refused 4 ", 25),
+        ("resync ", "refused 5", 80),
+        ("resync ", "refused 6", 20),
+        ("vector ", "vector -", 80),
+        ("vector ", "bad line", 30),
     ] {
         let found = calls.count(word.as_bytes(), answer.as_bytes());
         assert!(found >= least, "{word}{answer}: {found}");
     }
+}
+
+#[test]
+fn every_outcome_of_every_operation_of_the_node() {
+    let calls = Calls::generated();
+    for (word, outcomes) in [
+        (
+            "store ",
+            "done|refused 1|refused 2|refused 3|refused 7|refused 9",
+        ),
+        ("renew ", "done|refused 1|refused 2|refused 3|refused 7"),
+        ("ask", "done|refused 1|refused 7|refused 8"),
+        ("again", "done|refused 1|refused 7"),
+        ("answer ", "passed|cause 2|refused 1|refused 3|refused 7"),
+        ("reject", "cause 1|refused 1|refused 7"),
+        ("sync ", "done|refused 1|refused 3|refused 7"),
+        ("timeout", "done|refused 1|refused 7"),
+        ("abandon", "done|refused 1|refused 7"),
+        ("vlr-record ", "done|bad line"),
+        ("vlr-new", "done|bad line"),
+    ] {
+        for outcome in outcomes.split('|') {
+            let found = calls.count(word.as_bytes(), outcome.as_bytes());
+            assert!(found >= 2, "{word} {outcome}: {found}");
+        }
+        let named = |answer: &[u8]| {
+            let mut outcomes = outcomes.split('|').chain(["bad line"]);
+            outcomes.any(|outcome| answer.starts_with(outcome.as_bytes()))
+        };
+        let pairs = calls.pairs();
+        let mut of_word = pairs.iter().filter(|(l, _)| l.starts_with(word.as_bytes()));
+        assert!(of_word.all(|(_, answer)| named(answer)), "{word}");
+    }
+}
+
+#[test]
+fn every_pair_of_equal_rands_is_named() {
+    let calls = Calls::generated();
+    for word in ["order ", "resync "] {
+        for (first, second) in [(0, 1), (0, 2), (0, 3), (0, 4), (1, 2), (3, 4)] {
+            let answer = format!("refused 4 {first} {second}");
+            assert!(calls.count(word.as_bytes(), answer.as_bytes()) >= 1);
+        }
+    }
+}
+
+#[test]
+fn the_lines_for_the_node_come_last_and_can_be_left_out() {
+    let with = Calls::generated();
+    let without = file(NodeLines::Without, "calls/stdin");
+    let (all, fewer) = (lines(&with.input), lines(&without));
+    // An empty line and a good one end both.
+    let same = fewer.len() - 2;
+    assert_eq!(all[..same], fewer[..same]);
+    let answers = lines(&with.output);
+    let node_lines = &answers[same..answers.len() - 2];
+    let operations = node_lines.iter().filter(|line| **line != b"bad line");
+    assert!(operations.count() >= 2_000);
+    assert!(fewer.iter().all(|line| !line.starts_with(b"vlr-")));
 }
 
 #[test]
@@ -134,8 +223,8 @@ fn written_images_are_read() {
 #[test]
 fn the_size_the_bytes_and_the_end() {
     let calls = Calls::generated();
-    assert!((150_000..400_000).contains(&calls.input.len()));
-    assert!(calls.output.len() < 400_000);
+    assert!((1_000_000..2_000_000).contains(&calls.input.len()));
+    assert!(calls.output.len() < 3_000_000);
     assert!((0..=255).all(|byte| calls.input.contains(&byte)));
     assert_ne!(calls.input.last(), Some(&b'\n'));
     assert_eq!(calls.output.last(), Some(&b'\n'));
@@ -155,8 +244,10 @@ fn the_greatest_length_is_answered_and_no_more() {
         fit.map(|(_, answer)| answer).collect()
     };
     assert_eq!(answers(4_095), [b"refused 3"]);
-    assert_eq!(answers(4_096), [b"refused 3"]);
+    let longest: [&[u8]; 3] = [b"refused 3", b"refused 3", b"vector -"];
+    assert_eq!(answers(4_096), longest);
     assert_eq!(answers(4_097), [b"bad line"]);
+    assert_eq!(answers(4_098), [b"bad line", b"bad line"]);
 }
 
 /// Where each line starts, with the line.

@@ -4,7 +4,7 @@ use std::io::Write;
 use std::path::Path;
 use std::process::{Command, Output, Stdio};
 
-use reference::generate::files;
+use reference::generate::{bench_files, files, NodeLines};
 
 /// The input is written from a thread of its own, since the program may answer
 /// before all of it is taken.
@@ -31,7 +31,7 @@ fn generate_writes_the_files_and_the_commands_answer_them() {
     let folder = Path::new(env!("CARGO_TARGET_TMPDIR")).join("generated");
     let output = run(&["generate", folder.to_str().unwrap()], Vec::new());
     assert!(output.status.success());
-    for (name, bytes) in files() {
+    for (name, bytes) in files(NodeLines::With) {
         assert_eq!(std::fs::read(folder.join(name)).unwrap(), bytes);
     }
     for (command, program) in [
@@ -49,8 +49,33 @@ fn generate_writes_the_files_and_the_commands_answer_them() {
 }
 
 #[test]
+fn the_files_of_the_bench_are_written_and_answered() {
+    let folder = Path::new(env!("CARGO_TARGET_TMPDIR")).join("bench");
+    let output = run(&["generate-bench", folder.to_str().unwrap()], Vec::new());
+    assert!(output.status.success());
+    for (name, bytes) in bench_files() {
+        assert_eq!(std::fs::read(folder.join(name)).unwrap(), bytes);
+    }
+    for name in ["bench", "bench_more"] {
+        let input = std::fs::read(folder.join(name).join("stdin")).unwrap();
+        let expected = std::fs::read(folder.join(name).join("stdout")).unwrap();
+        assert!(run(&["bench"], input).stdout == expected);
+    }
+}
+
+#[test]
+fn the_lines_for_the_node_are_left_out() {
+    let folder = Path::new(env!("CARGO_TARGET_TMPDIR")).join("without_node");
+    let arguments = ["generate", "--no-node", folder.to_str().unwrap()];
+    assert!(run(&arguments, Vec::new()).status.success());
+    for (name, bytes) in files(NodeLines::Without) {
+        assert_eq!(std::fs::read(folder.join(name)).unwrap(), bytes);
+    }
+}
+
+#[test]
 fn an_empty_input_has_an_empty_answer() {
-    for command in ["aes-vectors", "function-vectors", "calls"] {
+    for command in ["aes-vectors", "function-vectors", "calls", "bench"] {
         let output = run(&[command], Vec::new());
         assert!(output.status.success());
         assert!(output.stdout.is_empty());
@@ -59,13 +84,17 @@ fn an_empty_input_has_an_empty_answer() {
 
 #[test]
 fn unknown_commands_exit_with_2() {
-    let commands: [&[&str]; 6] = [
+    let commands: [&[&str]; 10] = [
         &[],
         &["other"],
         &["aes-vectors", "more"],
         &["calls", "more"],
         &["generate"],
         &["generate", "a", "b"],
+        &["generate", "--no-node"],
+        &["generate", "--no-node", "a", "b"],
+        &["generate-bench"],
+        &["bench", "more"],
     ];
     for arguments in commands {
         let output = run(arguments, Vec::new());

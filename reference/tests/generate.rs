@@ -1,7 +1,7 @@
 //! The generated files: always the same, and with what they must hold.
 
 use reference::damage::{self, STRANGE};
-use reference::generate::{files, LONG, PIECE};
+use reference::generate::{files, NodeLines, LONG, PIECE};
 use reference::random::Random;
 use reference::text::lines;
 use reference::{aes_vectors, function_vectors, published};
@@ -13,7 +13,9 @@ const REFUSED: &[u8] = b"refused 1";
 fn generated(program: &str) -> (Vec<u8>, Vec<u8>) {
     let file = |name| {
         let path = format!("{program}/{name}");
-        let mut found = files().into_iter().filter(|(p, _)| *p == path);
+        let mut found = files(NodeLines::With)
+            .into_iter()
+            .filter(|(p, _)| *p == path);
         found.next().expect("a file of this path").1
     };
     (file("stdin"), file("stdout"))
@@ -35,8 +37,11 @@ fn line_at(input: &[u8], place: usize) -> (usize, &[u8]) {
 
 #[test]
 fn the_same_bytes_every_time() {
-    assert_eq!(files(), files());
-    let names: Vec<_> = files().iter().map(|(name, _)| *name).collect();
+    assert_eq!(files(NodeLines::With), files(NodeLines::With));
+    let names: Vec<_> = files(NodeLines::With)
+        .iter()
+        .map(|(name, _)| *name)
+        .collect();
     let expected = [
         "aes_vectors/stdin",
         "aes_vectors/stdout",

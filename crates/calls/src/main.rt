@@ -1,20 +1,52 @@
 // The public calls, one a line: a word, then fields with one space between. docs/CALLS.md has the words.
-mod card;
-mod parts;
 
 // Puts the answer to a line into the output buffer, and returns how many bytes wait there.
 fn answer(line: &[u8], out: &mut [u8], used: usize) -> usize {
     if 4096 < line.len() {
         return console::put(out, used, b"bad line\n");
     }
+    if fields::begins(line, b"order ") {
+        return auc_calls::order(line, out, used);
+    }
+    if fields::begins(line, b"resync ") {
+        return auc_calls::resync(line, out, used);
+    }
+    if fields::begins(line, b"vector ") {
+        return auc_calls::vector(line, out, used);
+    }
+    if fields::begins(line, b"auc-") {
+        return auc_record(line, out, used);
+    }
+    card(line, out, used)
+}
+
+// The calls on the centre's image.
+fn auc_record(line: &[u8], out: &mut [u8], used: usize) -> usize {
+    if fields::begins(line, b"auc-new ") {
+        return auc_calls::new(line, out, used);
+    }
+    if fields::begins(line, b"auc-read ") {
+        return auc_calls::read(line, out, used);
+    }
+    if fields::begins(line, b"auc-write ") {
+        return auc_calls::write(line, out, used);
+    }
+    console::put(out, used, b"bad line\n")
+}
+
+// The calls of the card.
+fn card(line: &[u8], out: &mut [u8], used: usize) -> usize {
     if fields::begins(line, b"challenge ") {
-        return card::challenge(line, out, used);
+        return card_calls::challenge(line, out, used);
+    }
+    if fields::begins(line, b"card-new ") {
+        return card_calls::new(line, out, used);
     }
     if fields::begins(line, b"card-read ") {
-        return card::read(line, out, used);
+        return card_calls::read(line, out, used);
     }
     if fields::begins(line, b"card-write ") {
-        return card::write(line, out, used);
+        return card_calls::write(line, out, used);
     }
     console::put(out, used, b"bad line\n")
 }

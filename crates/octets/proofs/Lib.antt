@@ -5,3 +5,4 @@ pub mod Tables
 pub mod Ranges
 pub mod Parts
 pub mod Walks
+pub mod Filling

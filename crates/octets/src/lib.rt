@@ -30,6 +30,29 @@ pub fn sixteen(s: &[u8]) -> [u8; 16]
     ]
 }
 
+// 14 lent octets.
+pub fn fourteen(s: &[u8]) -> [u8; 14]
+    requires { ⌜ length (now s) ≡ 14 ⌝ }
+    ensures { λ r. ⌜ r ≡ now (s .entry) ⌝ }
+{
+    [
+        s[0],
+        s[1],
+        s[2],
+        s[3],
+        s[4],
+        s[5],
+        s[6],
+        s[7],
+        s[8],
+        s[9],
+        s[10],
+        s[11],
+        s[12],
+        s[13],
+    ]
+}
+
 // Eight octets from `at` on.
 pub fn eight(x: [u8; 16], at: usize) -> [u8; 8]
     requires { ⌜ at ≤ 8 ⌝ }

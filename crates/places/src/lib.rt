@@ -25,7 +25,7 @@ pub fn within(places: [u64; 32]) -> bool
 }
 
 // SEQ_MS: the highest place.
-fn highest(places: [u64; 32]) -> u64
+pub fn highest(places: [u64; 32]) -> u64
     ensures { λ r. ⌜ r ≡ highestOf places ⌝ }
 {
     let mut most: u64 = 0;
@@ -40,7 +40,7 @@ fn highest(places: [u64; 32]) -> u64
 }
 
 // The lowest index that holds `seq`, 32 where none does.
-fn lowest_index(places: [u64; 32], seq: u64) -> usize
+pub fn lowest_index(places: [u64; 32], seq: u64) -> usize
     ensures { λ r. ⌜ (r ≡ lowestIndex seq places) × (r ≤ 32) ⌝ }
 {
     let mut i: usize = 0;

@@ -2,7 +2,7 @@
 ghost use mathlib.Core.Path.{_≡_};
 ghost use Prim.Native.Nat.{_<_};
 ghost use Rattle.octets.specs.Octets.{xor, equal, encode, decode};
-ghost use Rattle.aka.specs.Layout.{readAutn, writeAuts};
+ghost use Rattle.aka.specs.Layout.{readAutn, writeAutn, readAuts, writeAuts};
 
 // Whether two strings are the same. It looks at all octets whatever they are.
 pub fn same(x: [u8; 8], y: [u8; 8]) -> bool
@@ -100,5 +100,52 @@ pub fn auts(sqn: [u8; 6], ak: [u8; 6], mac: [u8; 8]) -> [u8; 14]
         mac[5],
         mac[6],
         mac[7],
+    ]
+}
+
+// AUTN: SQN concealed with AK, then AMF and MAC.
+pub fn autn(sqn: [u8; 6], ak: [u8; 6], amf: [u8; 2], mac: [u8; 8]) -> [u8; 16]
+    ensures { λ r. ⌜ r ≡ writeAutn (record { concealed = xor sqn ak; amf = amf; mac = mac }) ⌝ }
+{
+    let c = xor6(sqn, ak);
+    [
+        c[0],
+        c[1],
+        c[2],
+        c[3],
+        c[4],
+        c[5],
+        amf[0],
+        amf[1],
+        mac[0],
+        mac[1],
+        mac[2],
+        mac[3],
+        mac[4],
+        mac[5],
+        mac[6],
+        mac[7],
+    ]
+}
+
+// SQN_MS, which AUTS conceals with AK*.
+pub fn sqn_ms_in(auts: [u8; 14], ak: [u8; 6]) -> [u8; 6]
+    ensures { λ r. ⌜ r ≡ xor (readAuts auts .concealed) ak ⌝ }
+{
+    xor6([auts[0], auts[1], auts[2], auts[3], auts[4], auts[5]], ak)
+}
+
+pub fn mac_s_in(auts: [u8; 14]) -> [u8; 8]
+    ensures { λ r. ⌜ r ≡ readAuts auts .mac ⌝ }
+{
+    [
+        auts[6],
+        auts[7],
+        auts[8],
+        auts[9],
+        auts[10],
+        auts[11],
+        auts[12],
+        auts[13],
     ]
 }

@@ -1,0 +1,16 @@
+-- `sqn_ms` is SQN_MS taken out from under AK*. Assumes nothing.
+use mathlib.Core.Path.{ap, _∙_}
+use Rattle.octets.specs.Octets.{xor}
+use Rattle.aka.specs.Layout.{readAuts}
+use borrow.Author.Needs.{needs}
+use Rattle.auc.proofs.sqn_ms.Statement.{statement}
+use Rattle.auc.proofs.sqn_ms.Tie as tie
+
+returns : tie.Need-returns
+returns c = λ keys rand s. c .sqn-ms-in .ensures ∙ ap (xor (readAuts (c .before .before .args .auts) .concealed)) (c .before .f5s .ensures keys rand s)
+
+pub sqn-ms-spec : {M : Type 1} → statement M
+sqn-ms-spec =
+    tie.close
+    (tie.spec
+    (λ c κs. search needs) (λ c κs. search needs) returns)

@@ -1,0 +1,311 @@
+// The authentication centre, AuC (document 01: centre): its record, its orders and its resynchronisation.
+use batches::Series;
+use functions::Challenge;
+use functions::Keys;
+ghost use Prim.Native.Nat.{_+_, _*_, _^_, _≤_, _<_};
+ghost use mathlib.Core.Bool.{_&&_};
+ghost use mathlib.Core.Path.{_≡_};
+ghost use lib.Dec.{eqb};
+ghost use lib.ListN.{length};
+ghost use Rattle.octets.specs.Octets.{Octets};
+ghost use Rattle.aes_tables.specs.RoundTable.{IsRoundTable};
+ghost use Rattle.functions.specs.Challenge.{keysOf, IsSchedule, Started};
+ghost use Rattle.functions.specs.Sets.{sets};
+ghost use Rattle.aka.specs.Functions.{Keys as KeysOf};
+ghost use Rattle.aka.specs.Layout.{handedBack};
+ghost use Rattle.aka.specs.Sequence.{limit};
+ghost use Rattle.aka.specs.Auc.{newAuc, validAuc, countOf, inRange, sqnMsIn, macSRight, after as afterOf, order as orderOf, resync};
+ghost use Rattle.auc.specs.Views.{aucOf, outcomeOf, answerOf};
+ghost use Rattle.auc.specs.Steps.{Checked, refusedWith, sentFrom, renewed};
+
+// The largest SEQ.
+const LIMIT: u64 = 8796093022207;
+
+// The largest jump.
+const D: u64 = 268435456;
+
+// `seqhe` is SEQ_HE, `next` the next index.
+pub struct Auc {
+    pub keys: Keys,
+    pub amf: [u8; 2],
+    pub seqhe: u64,
+    pub next: u8,
+}
+
+// A batch: of an order, or of a resynchronisation that kept SEQ_HE or reset it. A refusal has its number; refusal 4 has its pair.
+pub enum Outcome {
+    Given,
+    Kept,
+    Reset,
+    Refused(u8),
+    Repeated(u8, u8),
+}
+
+// `n` is the number of vectors given, `auc` the next record.
+pub struct Answer {
+    pub outcome: Outcome,
+    pub n: u8,
+    pub auc: Auc,
+}
+
+// A new record: SEQ_HE and the next index are 0.
+pub fn new(keys: Keys, amf: [u8; 2]) -> Auc
+    ensures { λ r. ⌜ aucOf r ≡ newAuc (keysOf keys) amf ⌝ }
+{
+    Auc {
+        keys,
+        amf,
+        seqhe: 0,
+        next: 0,
+    }
+}
+
+// Whether refusal 1 does not apply.
+pub fn is_valid(auc: Auc) -> bool
+    ensures { λ r. ⌜ r ≡ validAuc 5 sets (aucOf auc) ⌝ }
+{
+    let keys = auc.keys;
+    if !functions::is_known(keys.set) {
+        return false;
+    }
+    if LIMIT < auc.seqhe {
+        return false;
+    }
+    auc.next < 32
+}
+
+// An answer that changes nothing.
+fn refused(outcome: Outcome, auc: Auc) -> Answer
+    ensures { λ r. ⌜ ((buffer : Octets) → answerOf r buffer ≡ refusedWith (outcomeOf outcome) (aucOf auc) buffer) ⌝ }
+{
+    Answer { outcome, n: 0, auc }
+}
+
+// A count of 0 means the default, 5.
+fn count_of(count: u64) -> u8
+    requires { ⌜ count ≤ 5 ⌝ }
+    ensures { λ r. ⌜ (r ≡ countOf count) × (r ≤ 5) ⌝ }
+{
+    if count == 0 {
+        return 5;
+    }
+    count as u8
+}
+
+// Refusals 1 to 4, else `Given`. `size` is the length of the buffer; `lent`: whatever else is lent has its length.
+fn check(auc: Auc, count: u64, rands: &[u8], size: usize, lent: bool) -> Outcome
+    ensures { λ r. ⌜ Checked (aucOf auc) count (now (rands .entry)) size lent r ⌝ }
+{
+    if !is_valid(auc) {
+        return Outcome::Refused(1);
+    }
+    if 5 < count {
+        return Outcome::Refused(2);
+    }
+    let n = count_of(count);
+    if rands.len() != 16 * (n as usize) {
+        return Outcome::Refused(3);
+    }
+    if size != 72 * (n as usize) {
+        return Outcome::Refused(3);
+    }
+    if !lent {
+        return Outcome::Refused(3);
+    }
+    let pair = batches::equal_pair(rands, n);
+    if pair.found {
+        return Outcome::Repeated(pair.first, pair.second);
+    }
+    Outcome::Given
+}
+
+// The record after a batch of n from `start` on.
+fn after(auc: Auc, start: u64, n: u8) -> Auc
+    requires { ⌜ (start + n ≤ limit 5) × (auc .next < 32) ⌝ }
+    ensures { λ r. ⌜ aucOf r ≡ afterOf 5 (aucOf auc) start n ⌝ }
+{
+    let keys = auc.keys;
+    let amf = auc.amf;
+    Auc {
+        keys,
+        amf,
+        seqhe: start + (n as u64),
+        next: (auc.next + 1) % 32,
+    }
+}
+
+// Sends a batch of n whose SEQ follow `start`, if the last is within the limit.
+fn send(
+    t: &[u32; 256],
+    w: &[u32; 44],
+    outcome: Outcome,
+    auc: Auc,
+    start: u64,
+    n: u8,
+    rands: &[u8],
+    batch: &mut [u8],
+) -> Answer
+    requires made { ⌜ IsRoundTable (now t) × IsSchedule (keysOf (auc .keys)) (now w) ⌝ }
+    requires room { ⌜ (n ≤ 5) × (start < 2 ^ 59) × (auc .next < 32) ⌝ }
+    requires lent { ⌜ (length (now rands) ≡ 16 * n) × (length (now batch) ≡ 72 * n) ⌝ }
+    ensures { λ r. ⌜ answerOf r (now (batch .exit)) ≡ sentFrom (aucOf auc) start n (now (rands .entry)) (now (batch .entry)) (outcomeOf outcome) ⌝ }
+{
+    if LIMIT < start + (n as u64) {
+        return refused(Outcome::Refused(6), auc);
+    }
+    let keys = auc.keys;
+    let amf = auc.amf;
+    let s = Series {
+        keys,
+        amf,
+        start,
+        next: auc.next,
+    };
+    batches::fill(t, w, s, rands, n, batch);
+    Answer {
+        outcome,
+        n,
+        auc: after(auc, start, n),
+    }
+}
+
+// The AuC's whole answer to an order.
+pub fn order(auc: Auc, count: u64, rands: &[u8], batch: &mut [u8]) -> Answer
+    ensures { λ r. ⌜ answerOf r (now (batch .exit)) ≡ orderOf 5 sets (aucOf auc) count (now (rands .entry)) (now (batch .entry)) ⌝ }
+{
+    let refusal = check(auc, count, rands, batch.len(), true);
+    let Outcome::Given = refusal else {
+        return refused(refusal, auc);
+    };
+    let keys = auc.keys;
+    let t = aes::round_table();
+    let w = functions::schedule(keys);
+    send(
+        &t,
+        &w,
+        Outcome::Given,
+        auc,
+        auc.seqhe,
+        count_of(count),
+        rands,
+        batch,
+    )
+}
+
+// The vector at place k of a batch, as that part of the caller's own octets; an empty part stands for refusal 3.
+pub fn vector_at<'a>(batch: &'a [u8], k: u64) -> &'a [u8]
+    ensures { λ r. ⌜ now r ≡ handedBack (now (batch .entry)) k ⌝ }
+{
+    batches::vector_at(batch, k)
+}
+
+// Whether SEQ_HE is at least SEQ_MS and no number of the batch passes SEQ_MS + D.
+fn in_range(seqhe: u64, seqms: u64, n: u8) -> bool
+    requires { ⌜ (n ≤ 5) × (seqhe ≤ limit 5) × (seqms < 2 ^ 59) ⌝ }
+    ensures { λ r. ⌜ r ≡ inRange seqhe seqms n ⌝ }
+{
+    if seqhe < seqms {
+        return false;
+    }
+    seqhe + (n as u64) <= seqms + D
+}
+
+// SQN_MS, which AUTS conceals with AK*: f5* of RAND.
+fn sqn_ms(t: &[u32; 256], w: &[u32; 44], c: Challenge, auts: [u8; 14]) -> [u8; 6]
+    requires { ⌜ IsRoundTable (now t) ⌝ }
+    ensures { λ r. ⌜ ((keys : KeysOf) (rand : Octets) → Started keys rand (now (w .entry)) c → r ≡ sqnMsIn (sets .under keys) rand auts) ⌝ }
+{
+    tokens::sqn_ms_in(auts, functions::f5s(t, w, c))
+}
+
+// Whether AUTS's MAC-S is f1* of SQN_MS, RAND and an AMF of zero.
+fn mac_s_right(t: &[u32; 256], w: &[u32; 44], c: Challenge, sqn: [u8; 6], auts: [u8; 14]) -> bool
+    requires { ⌜ IsRoundTable (now t) ⌝ }
+    ensures { λ r. ⌜ ((keys : KeysOf) (rand : Octets) → Started keys rand (now (w .entry)) c → sqn ≡ sqnMsIn (sets .under keys) rand auts → r ≡ macSRight (sets .under keys) rand auts) ⌝ }
+{
+    let mac = tokens::mac_s_in(auts);
+    let expected = functions::f1s(t, w, c, sqn, [0; 2]);
+    tokens::same(mac, expected)
+}
+
+// In range the batch is sent as usual, and MAC-S is not looked at. Otherwise MAC-S is verified, and SEQ_HE first becomes SEQ_MS.
+fn renew(
+    t: &[u32; 256],
+    w: &[u32; 44],
+    c: Challenge,
+    auts: [u8; 14],
+    auc: Auc,
+    n: u8,
+    rands: &[u8],
+    batch: &mut [u8],
+) -> Answer
+    requires made { ⌜ IsRoundTable (now t) × IsSchedule (keysOf (auc .keys)) (now w) ⌝ }
+    requires room { ⌜ (n ≤ 5) × (auc .seqhe ≤ limit 5) × (auc .next < 32) ⌝ }
+    requires lent { ⌜ (length (now rands) ≡ 16 * n) × (length (now batch) ≡ 72 * n) ⌝ }
+    ensures { λ r. ⌜ ((rand : Octets) → Started (keysOf (auc .keys)) rand (now (w .entry)) c → answerOf r (now (batch .exit)) ≡ renewed (aucOf auc) n (now (rands .entry)) (now (batch .entry)) rand auts) ⌝ }
+{
+    let sqn = sqn_ms(t, w, c, auts);
+    let ms = tokens::sqn_number(sqn) / 32;
+    if in_range(auc.seqhe, ms, n) {
+        return send(t, w, Outcome::Kept, auc, auc.seqhe, n, rands, batch);
+    }
+    if !mac_s_right(t, w, c, sqn, auts) {
+        return refused(Outcome::Refused(5), auc);
+    }
+    send(t, w, Outcome::Reset, auc, ms, n, rands, batch)
+}
+
+// The answer to RAND and AUTS once refusals 1 to 4 do not apply. RAND is taken up once, for SQN_MS and MAC-S.
+fn answer_auts(
+    auc: Auc,
+    n: u8,
+    rand: [u8; 16],
+    auts: [u8; 14],
+    rands: &[u8],
+    batch: &mut [u8],
+) -> Answer
+    requires room { ⌜ (n ≤ 5) × (auc .seqhe ≤ limit 5) × (auc .next < 32) ⌝ }
+    requires lent { ⌜ (length (now rands) ≡ 16 * n) × (length (now batch) ≡ 72 * n) ⌝ }
+    ensures { λ r. ⌜ answerOf r (now (batch .exit)) ≡ renewed (aucOf auc) n (now (rands .entry)) (now (batch .entry)) rand auts ⌝ }
+{
+    let keys = auc.keys;
+    let t = aes::round_table();
+    let w = functions::schedule(keys);
+    let c = functions::start(&t, &w, keys, rand);
+    renew(&t, &w, c, auts, auc, n, rands, batch)
+}
+
+// Whether RAND and AUTS have their lengths.
+fn is_sized(rand: &[u8], auts: &[u8]) -> bool
+    ensures { λ r. ⌜ r ≡ (eqb (length (now (rand .entry))) 16 && eqb (length (now (auts .entry))) 14) ⌝ }
+{
+    if rand.len() != 16 {
+        return false;
+    }
+    auts.len() == 14
+}
+
+// The AuC's whole answer to a resynchronisation, with RAND and AUTS of the synchronisation failure.
+pub fn resynchronise(
+    auc: Auc,
+    count: u64,
+    rand: &[u8],
+    auts: &[u8],
+    rands: &[u8],
+    batch: &mut [u8],
+) -> Answer
+    ensures { λ r. ⌜ answerOf r (now (batch .exit)) ≡ resync 5 sets (aucOf auc) count (now (rands .entry)) (now (batch .entry)) (now (rand .entry)) (now (auts .entry)) ⌝ }
+{
+    let refusal = check(auc, count, rands, batch.len(), is_sized(rand, auts));
+    let Outcome::Given = refusal else {
+        return refused(refusal, auc);
+    };
+    answer_auts(
+        auc,
+        count_of(count),
+        octets::sixteen(rand),
+        octets::fourteen(auts),
+        rands,
+        batch,
+    )
+}

@@ -1,0 +1,100 @@
+-- Demand 3 of the running code. `aka` states it of the definitions; here it names the records that `usim::challenge` and `auc::resynchronise`
+-- take and return, at the index width and the function sets that they use. Assumes nothing.
+use Prim.Native.Nat.{ℕ}
+use mathlib.Core.List.{List, [], _∷_}
+use mathlib.Core.Logic.{_⊎_}
+use mathlib.Core.Option.{Option, none}
+use mathlib.Core.Path.{_≡_}
+use Rattle.octets.specs.Octets.{Octets}
+use Rattle.functions.specs.Sets.{sets}
+use Rattle.functions.specs.Challenge.{keysOf}
+use Rattle.aka.specs.Auc.{kept, reset, countOf, resync}
+use Rattle.aka.specs.Usim.{challenge}
+use Rattle.aka.specs.Demand3 as aka
+use Rattle.usim.specs.declared.Usim.{Usim}
+use Rattle.usim.specs.declared.Answer as card
+use Rattle.usim.specs.Views as cardViews
+use Rattle.auc.specs.declared.Auc.{Auc}
+use Rattle.auc.specs.declared.Answer as centre
+use Rattle.auc.specs.Views as centreViews
+
+-- what the contract of `usim::challenge` says of its answer
+abbrev pub Answered : Usim → (rand autn : Octets) → card.Answer → Type 0
+Answered usim rand autn answer = cardViews.answerOf answer ≡ challenge 5 sets (cardViews.usimOf usim) rand autn
+
+-- what the contract of `auc::resynchronise` says of its answer, and of what the buffer holds at the end
+abbrev pub Renewed : Auc → (count : ℕ) (rands buffer rand auts : Octets) → centre.Answer → (batch : Octets) → Type 0
+Renewed auc count rands buffer rand auts answer batch =
+    centreViews.answerOf answer batch ≡ resync 5 sets (centreViews.aucOf auc) count rands buffer rand auts
+
+-- a card, a challenge to it and its answer; a centre, what is lent to its resynchronisation, and its answer
+pub record Setting : Type 0 where
+  pub usim : Usim
+  pub rand : Octets
+  pub autn : Octets
+  pub failure : card.Answer
+  pub auc : Auc
+  pub count : ℕ
+  pub rands : Octets
+  pub buffer : Octets
+  pub renewal : centre.Answer
+  pub batch : Octets  -- what the buffer holds at the end
+
+-- the records as the protocol has them
+abbrev pub settingOf : Setting → aka.Setting
+settingOf s = record {
+  usim = cardViews.usimOf (s .usim);
+  rand = s .rand;
+  autn = s .autn;
+  auc = centreViews.aucOf (s .auc);
+  count = s .count;
+  rands = s .rands;
+  buffer = s .buffer;
+}
+
+-- the failure's RAND and AUTS reach the centre unaltered
+pub record Ran (s : Setting) : Type 0 where
+  pub failure : Answered (s .usim) (s .rand) (s .autn) (s .failure)
+  pub renewal : Renewed (s .auc) (s .count) (s .rands) (s .buffer) (s .rand) (s .failure .auts) (s .renewal) (s .batch)
+
+-- a call of the card, with a RAND and AUTN of any octets, and its answer
+pub record Call : Type 0 where
+  pub rand : Octets
+  pub autn : Octets
+  pub answer : card.Answer
+
+-- each call gets the record that the one before returned
+unfoldable pub Chain : Usim → List Call → Type 0
+Chain usim [] = Unit {0}
+Chain usim (call ∷ rest) = Answered usim (call .rand) (call .autn) (call .answer) × Chain (call .answer .usim) rest
+
+abbrev pub callOf : Call → aka.Call
+callOf call = record { rand = call .rand; autn = call .autn }
+
+-- the calls with what they are counted as (`aka` `Demand3.placeOf`) and what the card answered
+module _ (batch : Octets) (n : ℕ) where
+  unfoldable pub steps : (last : Option ℕ) → List Call → List aka.Step
+  steps last [] = []
+  steps last (call ∷ rest) =
+      record {
+        place = aka.placeOf batch n last (callOf call);
+        last = aka.latest (aka.placeOf batch n last (callOf call)) last;
+        answer = cardViews.answerOf (call .answer);
+      }
+      ∷ steps (aka.latest (aka.placeOf batch n last (callOf call)) last) rest
+
+module _ (s : Setting) where
+  abbrev pub stepsOf : List Call → List aka.Step
+  stepsOf calls = steps (s .batch) (countOf (s .count)) none calls
+
+  pub record Conclusion : Type 0 where
+    -- the centre sends a batch
+    pub sent : (centreViews.outcomeOf (s .renewal .outcome) ≡ kept) ⊎ (centreViews.outcomeOf (s .renewal .outcome) ≡ reset)
+    -- for every list of calls that starts from the record that the failure left, each other call not being accepted:
+    -- each call of the batch is accepted with its vector's XRES, CK and IK, SEQ_MS is its SEQ, and SEQ_HE is ahead as `aka` `Demand3.Holds` says
+    pub all : (calls : List Call) → Chain (s .failure .usim) calls → aka.Each aka.OtherNotAccepted (stepsOf calls)
+        → aka.Each (aka.Holds 5 (sets .under (keysOf (s .usim .keys))) (s .batch) (countOf (s .count)) (s .renewal .auc .seqhe)) (stepsOf calls)
+
+-- `aka.Premise`: valid records of the same keys, count and lent parts as named, room, and a synchronisation failure
+abbrev pub Demand3 : Type 0
+Demand3 = (s : Setting) → Ran s → aka.Premise 5 sets (settingOf s) → Conclusion s

@@ -1,0 +1,1 @@
+// Demand 3 of the running code: the statement is in specs/, the proof in proofs/. There is no code here.

@@ -1,0 +1,146 @@
+//! Lines for the centre's words of `calls`: how each is written, and what the
+//! centre is lent.
+
+use crate::auc::Auc;
+use crate::auc_image::{self, LENGTH};
+use crate::block::Block;
+use crate::call_lines::{autn, new_card};
+use crate::functions::Subscriber;
+use crate::random::Random;
+use crate::text::{write_bytes, write_hex, write_number};
+use crate::usim::{sqn, Card};
+use crate::vector;
+
+/// The places of the fields in an `auc-write`, the word being the first.
+pub const SET: usize = 1;
+pub const BUFFER: usize = 5;
+pub const SEQ_HE: usize = 6;
+pub const NEXT: usize = 7;
+
+/// What a line lends for a batch. Edges exchange some of it.
+#[derive(Clone)]
+pub struct Lent {
+    pub image: Vec<u8>,
+    pub count: u64,
+    pub rands: Vec<u8>,
+    pub length: usize,
+}
+
+impl Lent {
+    /// RANDs and buffer as named for a count of 0 to 5.
+    pub fn new(auc: &Auc, count: usize, random: &mut Random) -> Lent {
+        let n = if count == 0 { 5 } else { count };
+        Lent {
+            image: image_of(auc).to_vec(),
+            count: count as u64,
+            rands: rands(n, random),
+            length: vector::LENGTH * n,
+        }
+    }
+
+    pub fn order(&self) -> Vec<u8> {
+        let fields = [
+            b"order".to_vec(),
+            write_bytes(&self.image),
+            write_number(self.count),
+            write_bytes(&self.rands),
+            write_number(self.length as u64),
+        ];
+        fields.join(&b' ')
+    }
+
+    pub fn resync(&self, rand: &[u8], auts: &[u8]) -> Vec<u8> {
+        let fields = [
+            b"resync".to_vec(),
+            write_bytes(&self.image),
+            write_number(self.count),
+            write_bytes(rand),
+            write_bytes(auts),
+            write_bytes(&self.rands),
+            write_number(self.length as u64),
+        ];
+        fields.join(&b' ')
+    }
+}
+
+/// The given number of RANDs, no two of them equal.
+pub fn rands(n: usize, random: &mut Random) -> Vec<u8> {
+    let mut rands = Vec::new();
+    for place in 0..n {
+        let mut rand: Block = random.bytes();
+        rand[7] = place as u8;
+        rands.extend(rand);
+    }
+    rands
+}
+
+pub fn image_of(auc: &Auc) -> [u8; LENGTH] {
+    auc_image::image(auc).expect("a valid record")
+}
+
+pub fn new_auc(set: u8, random: &mut Random) -> Auc {
+    Auc::new(new_card(set, random).subscriber, random.bytes())
+}
+
+pub fn auc_with(set: u8, seq_he: u64, next: u8, random: &mut Random) -> Auc {
+    Auc {
+        seq_he,
+        next,
+        ..new_auc(set, random)
+    }
+}
+
+/// The AUTS with which a card of this SQN_MS answers a stale challenge.
+pub fn auts(subscriber: &Subscriber, rand: &Block, seq_ms: u64, ind: usize) -> [u8; 14] {
+    let mut card = Card::new(subscriber.clone());
+    card.places[ind] = seq_ms;
+    let stale = autn(&card, rand, sqn(0, 0), &[0, 0]);
+    card.challenge(rand, &stale).auts
+}
+
+pub fn auc_read(image: &[u8]) -> Vec<u8> {
+    [b"auc-read ", &write_bytes(image)[..]].concat()
+}
+
+/// The fields of an `auc-write`; edges exchange some of them.
+pub fn write_fields(auc: &Auc, length: usize) -> Vec<Vec<u8>> {
+    vec![
+        b"auc-write".to_vec(),
+        write_number(auc.subscriber.set.into()),
+        write_hex(&auc.subscriber.k),
+        write_hex(&auc.subscriber.opc),
+        write_hex(&auc.amf),
+        write_number(length as u64),
+        write_number(auc.seq_he),
+        write_number(auc.next.into()),
+    ]
+}
+
+pub fn auc_write(auc: &Auc, length: usize) -> Vec<u8> {
+    write_fields(auc, length).join(&b' ')
+}
+
+pub fn auc_new(auc: &Auc) -> Vec<u8> {
+    let fields = [
+        b"auc-new".to_vec(),
+        write_number(auc.subscriber.set.into()),
+        write_hex(&auc.subscriber.k),
+        write_hex(&auc.subscriber.opc),
+        write_hex(&auc.amf),
+    ];
+    fields.join(&b' ')
+}
+
+pub fn card_new(subscriber: &Subscriber) -> Vec<u8> {
+    let fields = [
+        b"card-new".to_vec(),
+        write_number(subscriber.set.into()),
+        write_hex(&subscriber.k),
+        write_hex(&subscriber.opc),
+    ];
+    fields.join(&b' ')
+}
+
+pub fn vector_line(batch: &[u8], place: &str) -> Vec<u8> {
+    [b"vector ", &write_bytes(batch)[..], b" ", place.as_bytes()].concat()
+}
