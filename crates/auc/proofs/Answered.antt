@@ -14,11 +14,11 @@ use Rattle.functions.specs.Sets.{sets}
 use Rattle.aka.specs.Sequence.{limit}
 use Rattle.aka.specs.Auc as aka
 use Rattle.aka.specs.Auc.{answerWith, unlessRefused, unlessPast, orderOutcome, order, resyncOutcome, resync, lentFor, lentAll, inRange, macSRight}
-use Rattle.auc.specs.declared.Outcome.{Outcome}
-use Rattle.auc.specs.declared.Outcome.the-variants.{Given, Kept, Reset, Refused, Repeated}
-use Rattle.auc.specs.Views.{outcomeOf}
-use Rattle.auc.specs.Steps.{IfGiven, Checked, unlessGiven, sized, refusedWith, sentFrom, renewed}
-use Rattle.auc.proofs.Outcome.{the-type}
+use Rattle.auc_record.specs.declared.Outcome.{Outcome}
+use Rattle.auc_record.specs.declared.Outcome.the-variants.{Given, Kept, Reset, Refused, Repeated}
+use Rattle.auc_record.specs.Views.{outcomeOf}
+use Rattle.auc_record.specs.Steps.{IfGiven, Checked, unlessGiven, sized, refusedWith, sentFrom, renewed}
+use Rattle.auc_record.proofs.Outcome.{the-type}
 
 -- not the first of the five cases
 abbrev Other : Outcome → Type 0

@@ -1,7 +1,11 @@
-// The authentication centre, AuC (document 01: centre): its record, its orders and its resynchronisation.
+// The authentication centre, AuC (document 01: centre): its orders and its resynchronisation. Its record is handed on from `auc_record`.
+pub use auc_record::Answer;
+pub use auc_record::Auc;
+pub use auc_record::Outcome;
+pub use auc_record::is_valid;
+pub use auc_record::new;
 use batches::Series;
 use functions::Challenge;
-use functions::Keys;
 ghost use Prim.Native.Nat.{_+_, _*_, _^_, _≤_, _<_};
 ghost use mathlib.Core.Bool.{_&&_};
 ghost use mathlib.Core.Path.{_≡_};
@@ -14,125 +18,15 @@ ghost use Rattle.functions.specs.Sets.{sets};
 ghost use Rattle.aka.specs.Functions.{Keys as KeysOf};
 ghost use Rattle.aka.specs.Layout.{handedBack};
 ghost use Rattle.aka.specs.Sequence.{limit};
-ghost use Rattle.aka.specs.Auc.{newAuc, validAuc, countOf, inRange, sqnMsIn, macSRight, after as afterOf, order as orderOf, resync};
-ghost use Rattle.auc.specs.Views.{aucOf, outcomeOf, answerOf};
-ghost use Rattle.auc.specs.Steps.{Checked, refusedWith, sentFrom, renewed};
+ghost use Rattle.aka.specs.Auc.{inRange, sqnMsIn, macSRight, order as orderOf, resync};
+ghost use Rattle.auc_record.specs.Views.{aucOf, outcomeOf, answerOf};
+ghost use Rattle.auc_record.specs.Steps.{sentFrom, renewed};
 
 // The largest SEQ.
 const LIMIT: u64 = 8796093022207;
 
 // The largest jump.
 const D: u64 = 268435456;
-
-// `seqhe` is SEQ_HE, `next` the next index.
-pub struct Auc {
-    pub keys: Keys,
-    pub amf: [u8; 2],
-    pub seqhe: u64,
-    pub next: u8,
-}
-
-// A batch: of an order, or of a resynchronisation that kept SEQ_HE or reset it. A refusal has its number; refusal 4 has its pair.
-pub enum Outcome {
-    Given,
-    Kept,
-    Reset,
-    Refused(u8),
-    Repeated(u8, u8),
-}
-
-// `n` is the number of vectors given, `auc` the next record.
-pub struct Answer {
-    pub outcome: Outcome,
-    pub n: u8,
-    pub auc: Auc,
-}
-
-// A new record: SEQ_HE and the next index are 0.
-pub fn new(keys: Keys, amf: [u8; 2]) -> Auc
-    ensures { λ r. ⌜ aucOf r ≡ newAuc (keysOf keys) amf ⌝ }
-{
-    Auc {
-        keys,
-        amf,
-        seqhe: 0,
-        next: 0,
-    }
-}
-
-// Whether refusal 1 does not apply.
-pub fn is_valid(auc: Auc) -> bool
-    ensures { λ r. ⌜ r ≡ validAuc 5 sets (aucOf auc) ⌝ }
-{
-    let keys = auc.keys;
-    if !functions::is_known(keys.set) {
-        return false;
-    }
-    if LIMIT < auc.seqhe {
-        return false;
-    }
-    auc.next < 32
-}
-
-// An answer that changes nothing.
-fn refused(outcome: Outcome, auc: Auc) -> Answer
-    ensures { λ r. ⌜ ((buffer : Octets) → answerOf r buffer ≡ refusedWith (outcomeOf outcome) (aucOf auc) buffer) ⌝ }
-{
-    Answer { outcome, n: 0, auc }
-}
-
-// A count of 0 means the default, 5.
-fn count_of(count: u64) -> u8
-    requires { ⌜ count ≤ 5 ⌝ }
-    ensures { λ r. ⌜ (r ≡ countOf count) × (r ≤ 5) ⌝ }
-{
-    if count == 0 {
-        return 5;
-    }
-    count as u8
-}
-
-// Refusals 1 to 4, else `Given`. `size` is the length of the buffer; `lent`: whatever else is lent has its length.
-fn check(auc: Auc, count: u64, rands: &[u8], size: usize, lent: bool) -> Outcome
-    ensures { λ r. ⌜ Checked (aucOf auc) count (now (rands .entry)) size lent r ⌝ }
-{
-    if !is_valid(auc) {
-        return Outcome::Refused(1);
-    }
-    if 5 < count {
-        return Outcome::Refused(2);
-    }
-    let n = count_of(count);
-    if rands.len() != 16 * (n as usize) {
-        return Outcome::Refused(3);
-    }
-    if size != 72 * (n as usize) {
-        return Outcome::Refused(3);
-    }
-    if !lent {
-        return Outcome::Refused(3);
-    }
-    let pair = batches::equal_pair(rands, n);
-    if pair.found {
-        return Outcome::Repeated(pair.first, pair.second);
-    }
-    Outcome::Given
-}
-
-// The record after a batch of n from `start` on.
-fn after(auc: Auc, start: u64, n: u8) -> Auc
-    requires { ⌜ (start + n ≤ limit 5) × (auc .next < 32) ⌝ }
-    ensures { λ r. ⌜ aucOf r ≡ afterOf 5 (aucOf auc) start n ⌝ }
-{
-    let keys = auc.keys;
-    let amf = auc.amf;
-    Auc {
-        keys,
-        amf,
-        seqhe: start + (n as u64),
-        next: (auc.next + 1) % 32,
-    }
-}
 
 // Sends a batch of n whose SEQ follow `start`, if the last is within the limit.
 fn send(
@@ -151,7 +45,7 @@ fn send(
     ensures { λ r. ⌜ answerOf r (now (batch .exit)) ≡ sentFrom (aucOf auc) start n (now (rands .entry)) (now (batch .entry)) (outcomeOf outcome) ⌝ }
 {
     if LIMIT < start + (n as u64) {
-        return refused(Outcome::Refused(6), auc);
+        return auc_record::refused(Outcome::Refused(6), auc);
     }
     let keys = auc.keys;
     let amf = auc.amf;
@@ -165,7 +59,7 @@ fn send(
     Answer {
         outcome,
         n,
-        auc: after(auc, start, n),
+        auc: auc_record::after(auc, start, n),
     }
 }
 
@@ -173,9 +67,9 @@ fn send(
 pub fn order(auc: Auc, count: u64, rands: &[u8], batch: &mut [u8]) -> Answer
     ensures { λ r. ⌜ answerOf r (now (batch .exit)) ≡ orderOf 5 sets (aucOf auc) count (now (rands .entry)) (now (batch .entry)) ⌝ }
 {
-    let refusal = check(auc, count, rands, batch.len(), true);
+    let refusal = auc_record::check(auc, count, rands, batch.len(), true);
     let Outcome::Given = refusal else {
-        return refused(refusal, auc);
+        return auc_record::refused(refusal, auc);
     };
     let keys = auc.keys;
     let t = aes::round_table();
@@ -186,7 +80,7 @@ pub fn order(auc: Auc, count: u64, rands: &[u8], batch: &mut [u8]) -> Answer
         Outcome::Given,
         auc,
         auc.seqhe,
-        count_of(count),
+        auc_record::count_of(count),
         rands,
         batch,
     )
@@ -250,7 +144,7 @@ fn renew(
         return send(t, w, Outcome::Kept, auc, auc.seqhe, n, rands, batch);
     }
     if !mac_s_right(t, w, c, sqn, auts) {
-        return refused(Outcome::Refused(5), auc);
+        return auc_record::refused(Outcome::Refused(5), auc);
     }
     send(t, w, Outcome::Reset, auc, ms, n, rands, batch)
 }
@@ -296,13 +190,13 @@ pub fn resynchronise(
 ) -> Answer
     ensures { λ r. ⌜ answerOf r (now (batch .exit)) ≡ resync 5 sets (aucOf auc) count (now (rands .entry)) (now (batch .entry)) (now (rand .entry)) (now (auts .entry)) ⌝ }
 {
-    let refusal = check(auc, count, rands, batch.len(), is_sized(rand, auts));
+    let refusal = auc_record::check(auc, count, rands, batch.len(), is_sized(rand, auts));
     let Outcome::Given = refusal else {
-        return refused(refusal, auc);
+        return auc_record::refused(refusal, auc);
     };
     answer_auts(
         auc,
-        count_of(count),
+        auc_record::count_of(count),
         octets::sixteen(rand),
         octets::fourteen(auts),
         rands,

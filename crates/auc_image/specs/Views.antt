@@ -1,5 +1,5 @@
 -- The code's answer as the definitions have it. Assumes nothing: these are definitions.
-use Rattle.auc.specs.Views.{aucOf}
+use Rattle.auc_record.specs.Views.{aucOf}
 use Rattle.auc_image.specs.declared.Answer as declared
 use Rattle.auc_image.specs.Image.{Read}
 

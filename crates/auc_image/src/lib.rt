@@ -1,6 +1,6 @@
 // The packed image of an AuC's record (document 01: centre), most significant bit first: edition and set in 4 bits each, K, OPc, AMF,
 // SEQ_HE in 43 bits and the next index in 5.
-use auc::Auc;
+use auc_record::Auc;
 ghost use mathlib.Core.Bool.{true};
 ghost use mathlib.Core.List.{_++_};
 ghost use mathlib.Core.Path.{_≡_};
@@ -9,7 +9,7 @@ ghost use Rattle.octets.specs.Octets.{decode, encode, number, part};
 ghost use Rattle.functions.specs.Sets.{sets};
 ghost use Rattle.aka.specs.Layout.{amfSize, sqnSize};
 ghost use Rattle.aka.specs.Auc.{validAuc};
-ghost use Rattle.auc.specs.Views.{aucOf};
+ghost use Rattle.auc_record.specs.Views.{aucOf};
 ghost use Rattle.image_parts.specs.Written.{writtenOf};
 ghost use Rattle.auc_image.specs.Image.{amfAt, bits, image as imageOf, imageSize, readAnswer, readImage, sqnAt, unread, writeAnswer};
 ghost use Rattle.auc_image.specs.Views.{readOf};
@@ -73,7 +73,7 @@ fn fill(auc: Auc, image: &mut [u8])
 pub fn write(auc: Auc, buffer: &mut [u8]) -> u8
     ensures { λ r. ⌜ writtenOf r (now (buffer .exit)) ≡ writeAnswer 5 sets (aucOf auc) (now (buffer .entry)) ⌝ }
 {
-    if !auc::is_valid(auc) {
+    if !auc_record::is_valid(auc) {
         return 1;
     }
     if buffer.len() != SIZE {
@@ -126,7 +126,7 @@ fn refused(number: u8) -> Answer
 {
     Answer {
         refusal: number,
-        auc: auc::new(image_parts::no_keys(), [0; 2]),
+        auc: auc_record::new(image_parts::no_keys(), [0; 2]),
     }
 }
 

@@ -14,7 +14,7 @@ use Rattle.aka.specs.Usim as usim
 use Rattle.aka.specs.Demand3 as aka
 use Rattle.usim.specs.declared.Usim.{Usim}
 use Rattle.usim.specs.Views as cardViews
-use Rattle.auc.specs.Views as centreViews
+use Rattle.auc_record.specs.Views as centreViews
 use Rattle.demand3.specs.Running.{Setting, Ran, Call, Chain, callOf, steps, settingOf, Demand3}
 
 -- the steps of the code are the steps of the definitions

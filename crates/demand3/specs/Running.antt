@@ -14,9 +14,9 @@ use Rattle.aka.specs.Demand3 as aka
 use Rattle.usim.specs.declared.Usim.{Usim}
 use Rattle.usim.specs.declared.Answer as card
 use Rattle.usim.specs.Views as cardViews
-use Rattle.auc.specs.declared.Auc.{Auc}
-use Rattle.auc.specs.declared.Answer as centre
-use Rattle.auc.specs.Views as centreViews
+use Rattle.auc_record.specs.declared.Auc.{Auc}
+use Rattle.auc_record.specs.declared.Answer as centre
+use Rattle.auc_record.specs.Views as centreViews
 
 -- what the contract of `usim::challenge` says of its answer
 abbrev pub Answered : Usim → (rand autn : Octets) → card.Answer → Type 0

@@ -5,8 +5,8 @@ use mathlib.Core.Path.{ap, _∙_}
 use native.Mathlib.Omega.{arith}
 use lib.ListN.{length}
 use Rattle.aka.specs.Auc.{given}
-use Rattle.auc.specs.Views.{aucOf}
-use Rattle.auc.specs.Steps.{Passed, sentFrom}
+use Rattle.auc_record.specs.Views.{aucOf}
+use Rattle.auc_record.specs.Steps.{Passed, sentFrom}
 use Rattle.auc.proofs.Answered.{when-given, order-refused, order-sent}
 use borrow.Author.Needs.{needs}
 use Rattle.auc.proofs.order.Statement.{statement}

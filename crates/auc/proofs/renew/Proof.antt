@@ -8,8 +8,8 @@ use Rattle.octets.specs.Octets.{Octets, decode}
 use Rattle.functions.specs.Challenge.{keysOf, Started}
 use Rattle.functions.specs.Sets.{sets}
 use Rattle.aka.specs.Auc.{reset, inRange, macSRight, seqMsIn}
-use Rattle.auc.specs.Views.{aucOf}
-use Rattle.auc.specs.Steps.{sentFrom, renewed}
+use Rattle.auc_record.specs.Views.{aucOf}
+use Rattle.auc_record.specs.Steps.{sentFrom, renewed}
 use borrow.Author.Needs.{needs}
 use Rattle.auc.proofs.renew.Statement.{statement}
 use Rattle.auc.proofs.renew.Tie as tie

@@ -7,8 +7,8 @@ use lib.Dec.{eqb}
 use lib.ListN.{length}
 use Rattle.octets.specs.Octets.{Octets}
 use Rattle.aka.specs.Auc.{countOf}
-use Rattle.auc.specs.Views.{aucOf}
-use Rattle.auc.specs.Steps.{Passed, Checked, renewed}
+use Rattle.auc_record.specs.Views.{aucOf}
+use Rattle.auc_record.specs.Steps.{Passed, Checked, renewed}
 use Rattle.auc.proofs.Answered.{when-given, resync-refused, resync-sent}
 use borrow.Author.Needs.{needs}
 use Rattle.auc.proofs.resynchronise.Statement.{statement}

@@ -7,8 +7,8 @@ use Rattle.functions.specs.Sets.{sets}
 use Rattle.aka.specs.Functions.{Keys}
 use Rattle.aka.specs.Sequence.{limit}
 use Rattle.aka.specs.Auc.{Auc, AucAnswer, Outcome, batchFrom}
-use Rattle.auc.specs.Views.{aucOf, outcomeOf}
-use Rattle.auc.specs.Steps.{sentFrom}
+use Rattle.auc_record.specs.Views.{aucOf, outcomeOf}
+use Rattle.auc_record.specs.Steps.{sentFrom}
 use borrow.Author.Needs.{needs}
 use Rattle.auc.proofs.send.Statement.{statement}
 use Rattle.auc.proofs.send.Tie as tie

@@ -7,7 +7,7 @@ use Rattle.octets.specs.Octets.{Octets, number, encode}
 use Rattle.functions.specs.Sets.{sets}
 use Rattle.aka.specs.Auc.{Auc}
 use Rattle.aka.proofs.Outcomes.{valid-iff}
-use Rattle.auc.specs.Views.{aucOf}
+use Rattle.auc_record.specs.Views.{aucOf}
 use Rattle.image_parts.specs.Head.{head}
 use Rattle.auc_image.specs.Image.{bits, image}
 use borrow.Author.Needs.{needs}

@@ -4,7 +4,7 @@ use native.Mathlib.Omega.{arith}
 use Rattle.octets.specs.Octets.{encode}
 use Rattle.functions.specs.Sets.{sets}
 use Rattle.aka.proofs.Outcomes.{valid-iff}
-use Rattle.auc.specs.Views.{aucOf}
+use Rattle.auc_record.specs.Views.{aucOf}
 use Rattle.auc_image.proofs.Bits.{one-number}
 use borrow.Author.Needs.{needs}
 use Rattle.auc_image.proofs.sqn_of.Statement.{statement}

@@ -2,8 +2,8 @@
 use mathlib.Core.Bool.{Bool}
 use mathlib.Core.Path.{sym, ap, _∙_}
 use Rattle.aka.specs.Vlr.{judged, answer}
-use Rattle.vlr.specs.Views.{vlrOf}
-use Rattle.vlr.proofs.Refusals.{refusal, none, asked-sized}
+use Rattle.vlr_record.specs.Views.{vlrOf}
+use Rattle.vlr_record.proofs.Refusals.{refusal, none, asked-sized}
 use borrow.Author.Needs.{needs}
 use Rattle.vlr.proofs.answer.Statement.{statement}
 use Rattle.vlr.proofs.answer.Tie as tie

@@ -4,7 +4,7 @@ use mathlib.Core.Path.{refl, sym, ap, _∙_}
 use borrow.Author.Tests.{not-true, not-false}
 use Rattle.aka.specs.Layout.{readVector}
 use Rattle.aka.specs.Vlr.{Vlr, cause, plain, judged}
-use Rattle.vlr.specs.Views.{vlrOf}
+use Rattle.vlr_record.specs.Views.{vlrOf}
 use borrow.Author.Needs.{needs}
 use Rattle.vlr.proofs.judged.Statement.{statement}
 use Rattle.vlr.proofs.judged.Tie as tie
