@@ -7,26 +7,20 @@ pub use auc_record::new;
 use batches::Series;
 use functions::Challenge;
 ghost use Prim.Native.Nat.{_+_, _*_, _^_, _≤_, _<_};
-ghost use mathlib.Core.Bool.{_&&_};
 ghost use mathlib.Core.Path.{_≡_};
-ghost use lib.Dec.{eqb};
 ghost use lib.ListN.{length};
 ghost use Rattle.octets.specs.Octets.{Octets};
 ghost use Rattle.aes_tables.specs.RoundTable.{IsRoundTable};
 ghost use Rattle.functions.specs.Challenge.{keysOf, IsSchedule, Started};
 ghost use Rattle.functions.specs.Sets.{sets};
-ghost use Rattle.aka.specs.Functions.{Keys as KeysOf};
 ghost use Rattle.aka.specs.Layout.{handedBack};
 ghost use Rattle.aka.specs.Sequence.{limit};
-ghost use Rattle.aka.specs.Auc.{inRange, sqnMsIn, macSRight, order as orderOf, resync};
+ghost use Rattle.aka.specs.Auc.{order as orderOf, resync};
 ghost use Rattle.auc_record.specs.Views.{aucOf, outcomeOf, answerOf};
 ghost use Rattle.auc_record.specs.Steps.{sentFrom, renewed};
 
 // The largest SEQ.
 const LIMIT: u64 = 8796093022207;
-
-// The largest jump.
-const D: u64 = 268435456;
 
 // Sends a batch of n whose SEQ follow `start`, if the last is within the limit.
 fn send(
@@ -90,36 +84,7 @@ pub fn order(auc: Auc, count: u64, rands: &[u8], batch: &mut [u8]) -> Answer
 pub fn vector_at<'a>(batch: &'a [u8], k: u64) -> &'a [u8]
     ensures { λ r. ⌜ now r ≡ handedBack (now (batch .entry)) k ⌝ }
 {
-    batches::vector_at(batch, k)
-}
-
-// Whether SEQ_HE is at least SEQ_MS and no number of the batch passes SEQ_MS + D.
-fn in_range(seqhe: u64, seqms: u64, n: u8) -> bool
-    requires { ⌜ (n ≤ 5) × (seqhe ≤ limit 5) × (seqms < 2 ^ 59) ⌝ }
-    ensures { λ r. ⌜ r ≡ inRange seqhe seqms n ⌝ }
-{
-    if seqhe < seqms {
-        return false;
-    }
-    seqhe + (n as u64) <= seqms + D
-}
-
-// SQN_MS, which AUTS conceals with AK*: f5* of RAND.
-fn sqn_ms(t: &[u32; 256], w: &[u32; 44], c: Challenge, auts: [u8; 14]) -> [u8; 6]
-    requires { ⌜ IsRoundTable (now t) ⌝ }
-    ensures { λ r. ⌜ ((keys : KeysOf) (rand : Octets) → Started keys rand (now (w .entry)) c → r ≡ sqnMsIn (sets .under keys) rand auts) ⌝ }
-{
-    tokens::sqn_ms_in(auts, functions::f5s(t, w, c))
-}
-
-// Whether AUTS's MAC-S is f1* of SQN_MS, RAND and an AMF of zero.
-fn mac_s_right(t: &[u32; 256], w: &[u32; 44], c: Challenge, sqn: [u8; 6], auts: [u8; 14]) -> bool
-    requires { ⌜ IsRoundTable (now t) ⌝ }
-    ensures { λ r. ⌜ ((keys : KeysOf) (rand : Octets) → Started keys rand (now (w .entry)) c → sqn ≡ sqnMsIn (sets .under keys) rand auts → r ≡ macSRight (sets .under keys) rand auts) ⌝ }
-{
-    let mac = tokens::mac_s_in(auts);
-    let expected = functions::f1s(t, w, c, sqn, [0; 2]);
-    tokens::same(mac, expected)
+    lent_parts::vector_at(batch, k)
 }
 
 // In range the batch is sent as usual, and MAC-S is not looked at. Otherwise MAC-S is verified, and SEQ_HE first becomes SEQ_MS.
@@ -138,12 +103,12 @@ fn renew(
     requires lent { ⌜ (length (now rands) ≡ 16 * n) × (length (now batch) ≡ 72 * n) ⌝ }
     ensures { λ r. ⌜ ((rand : Octets) → Started (keysOf (auc .keys)) rand (now (w .entry)) c → answerOf r (now (batch .exit)) ≡ renewed (aucOf auc) n (now (rands .entry)) (now (batch .entry)) rand auts) ⌝ }
 {
-    let sqn = sqn_ms(t, w, c, auts);
+    let sqn = auts::sqn_ms(t, w, c, auts);
     let ms = tokens::sqn_number(sqn) / 32;
-    if in_range(auc.seqhe, ms, n) {
+    if auts::in_range(auc.seqhe, ms, n) {
         return send(t, w, Outcome::Kept, auc, auc.seqhe, n, rands, batch);
     }
-    if !mac_s_right(t, w, c, sqn, auts) {
+    if !auts::mac_s_right(t, w, c, sqn, auts) {
         return auc_record::refused(Outcome::Refused(5), auc);
     }
     send(t, w, Outcome::Reset, auc, ms, n, rands, batch)
@@ -169,16 +134,6 @@ fn answer_auts(
     renew(&t, &w, c, auts, auc, n, rands, batch)
 }
 
-// Whether RAND and AUTS have their lengths.
-fn is_sized(rand: &[u8], auts: &[u8]) -> bool
-    ensures { λ r. ⌜ r ≡ (eqb (length (now (rand .entry))) 16 && eqb (length (now (auts .entry))) 14) ⌝ }
-{
-    if rand.len() != 16 {
-        return false;
-    }
-    auts.len() == 14
-}
-
 // The AuC's whole answer to a resynchronisation, with RAND and AUTS of the synchronisation failure.
 pub fn resynchronise(
     auc: Auc,
@@ -190,7 +145,7 @@ pub fn resynchronise(
 ) -> Answer
     ensures { λ r. ⌜ answerOf r (now (batch .exit)) ≡ resync 5 sets (aucOf auc) count (now (rands .entry)) (now (batch .entry)) (now (rand .entry)) (now (auts .entry)) ⌝ }
 {
-    let refusal = auc_record::check(auc, count, rands, batch.len(), is_sized(rand, auts));
+    let refusal = auc_record::check(auc, count, rands, batch.len(), auts::is_sized(rand, auts));
     let Outcome::Given = refusal else {
         return auc_record::refused(refusal, auc);
     };

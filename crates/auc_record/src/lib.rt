@@ -102,7 +102,7 @@ pub fn check(auc: Auc, count: u64, rands: &[u8], size: usize, lent: bool) -> Out
     if !lent {
         return Outcome::Refused(3);
     }
-    let pair = batches::equal_pair(rands, n);
+    let pair = lent_parts::equal_pair(rands, n);
     if pair.found {
         return Outcome::Repeated(pair.first, pair.second);
     }

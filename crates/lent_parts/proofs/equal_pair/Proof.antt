@@ -6,8 +6,8 @@ use native.Mathlib.Omega.{arith}
 use Rattle.aka.specs.Auc.{pairWith, pairFrom}
 use Rattle.aka.proofs.Steps.{with-hit, with-miss, with-end, from-hit, from-miss, from-end}
 use borrow.Author.Needs.{needs}
-use Rattle.batches.proofs.equal_pair.Statement.{statement}
-use Rattle.batches.proofs.equal_pair.Tie as tie
+use Rattle.lent_parts.proofs.equal_pair.Statement.{statement}
+use Rattle.lent_parts.proofs.equal_pair.Tie as tie
 
 abbrev Inv-loop : tie.InvT-loop
 Inv-loop rands n found₀ first₀ second₀ i j₀ found first second j =

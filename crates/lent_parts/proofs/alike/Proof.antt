@@ -5,8 +5,8 @@ use native.Mathlib.Omega.{arith}
 use lib.ListN.{take, drop}
 use Rattle.octets.specs.Octets.{equal}
 use borrow.Author.Needs.{needs}
-use Rattle.batches.proofs.alike.Statement.{statement}
-use Rattle.batches.proofs.alike.Tie as tie
+use Rattle.lent_parts.proofs.alike.Statement.{statement}
+use Rattle.lent_parts.proofs.alike.Tie as tie
 
 returns : tie.Need-returns
 returns c =

@@ -1,8 +1,8 @@
 -- `is_sized` tests both lengths. Assumes nothing.
 use mathlib.Core.Path.{refl}
 use borrow.Author.Tests.{eq-eqb, ne-eqb}
-use Rattle.auc.proofs.is_sized.Statement.{statement}
-use Rattle.auc.proofs.is_sized.Tie as tie
+use Rattle.auts.proofs.is_sized.Statement.{statement}
+use Rattle.auts.proofs.is_sized.Tie as tie
 
 returns : tie.Need-returns
 returns c = rw (ne-eqb _ _ (c .if1 .taken)) refl

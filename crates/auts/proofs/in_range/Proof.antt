@@ -3,8 +3,8 @@ use mathlib.Core.Path.{refl}
 use borrow.Author.Tests.{le-leb, lt-leb}
 use Rattle.aka.specs.Auc.{inRange}
 use borrow.Author.Needs.{needs}
-use Rattle.auc.proofs.in_range.Statement.{statement}
-use Rattle.auc.proofs.in_range.Tie as tie
+use Rattle.auts.proofs.in_range.Statement.{statement}
+use Rattle.auts.proofs.in_range.Tie as tie
 
 returns : tie.Need-returns
 unfolding inRange

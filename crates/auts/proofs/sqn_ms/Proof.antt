@@ -3,8 +3,8 @@ use mathlib.Core.Path.{ap, _∙_}
 use Rattle.octets.specs.Octets.{xor}
 use Rattle.aka.specs.Layout.{readAuts}
 use borrow.Author.Needs.{needs}
-use Rattle.auc.proofs.sqn_ms.Statement.{statement}
-use Rattle.auc.proofs.sqn_ms.Tie as tie
+use Rattle.auts.proofs.sqn_ms.Statement.{statement}
+use Rattle.auts.proofs.sqn_ms.Tie as tie
 
 returns : tie.Need-returns
 returns c = λ keys rand s. c .sqn-ms-in .ensures ∙ ap (xor (readAuts (c .before .before .args .auts) .concealed)) (c .before .f5s .ensures keys rand s)

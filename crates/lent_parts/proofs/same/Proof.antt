@@ -7,8 +7,8 @@ use lib.ListN.{length, drop, drop-of-length-le}
 use Rattle.octets.specs.Octets.{equal}
 use Rattle.octets.proofs.Parts.{drop-next}
 use borrow.Author.Needs.{needs}
-use Rattle.batches.proofs.same.Statement.{statement}
-use Rattle.batches.proofs.same.Tie as tie
+use Rattle.lent_parts.proofs.same.Statement.{statement}
+use Rattle.lent_parts.proofs.same.Tie as tie
 
 abbrev Inv-loop : tie.InvT-loop
 Inv-loop x y i₀ i = (i ≤ length x) × (equal x y ≡ equal (drop i x) (drop i y))

@@ -5,8 +5,8 @@ use Rattle.functions.specs.Sets.{sets}
 use Rattle.aka.specs.Functions.{dummyAmf}
 use Rattle.aka.specs.Auc.{macSRight}
 use borrow.Author.Needs.{needs}
-use Rattle.auc.proofs.mac_s_right.Statement.{statement}
-use Rattle.auc.proofs.mac_s_right.Tie as tie
+use Rattle.auts.proofs.mac_s_right.Statement.{statement}
+use Rattle.auts.proofs.mac_s_right.Tie as tie
 
 returns : tie.Need-returns
 unfolding macSRight

@@ -6,8 +6,8 @@ use borrow.Author.Tests.{le-leb, lt-leb, lt-ltb, le-ltb, eq-eqb, ne-eqb}
 use lib.ListN.{length, take, drop}
 use Rattle.aka.specs.Layout.{isPlace, handedBack}
 use borrow.Author.Needs.{needs}
-use Rattle.batches.proofs.vector_at.Statement.{statement}
-use Rattle.batches.proofs.vector_at.Tie as tie
+use Rattle.lent_parts.proofs.vector_at.Statement.{statement}
+use Rattle.lent_parts.proofs.vector_at.Tie as tie
 
 returns : tie.Need-returns
 unfolding isPlace handedBack
