@@ -1,0 +1,9 @@
+-- A text as the codes of its characters. Assumes nothing: these are definitions.
+use Prim.Native.Nat.{ℕ}
+use Prim.Native.Char.{code}
+use Prim.Native.String.{String, [] as nothing, _∷_ as _before_}
+use mathlib.Core.List.{List, [], _∷_}
+
+abbrev pub ascii : String → List ℕ
+ascii nothing = []
+ascii (c before s) = code c ∷ ascii s
