@@ -36,6 +36,23 @@ pub fn more() -> Vec<u8> {
     script.bytes
 }
 
+/// A load of order and ask lines, for timing: batches of five, each used up.
+pub fn load(lines: usize) -> Vec<u8> {
+    let mut script = Script {
+        random: Random::new(100),
+        bytes: Vec::new(),
+    };
+    script.key(1);
+    for n in 0..lines {
+        if n % 6 == 0 {
+            script.order(5);
+        } else {
+            script.say("ask");
+        }
+    }
+    script.bytes
+}
+
 pub struct Script {
     pub random: Random,
     pub bytes: Vec<u8>,

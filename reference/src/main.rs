@@ -5,12 +5,13 @@ use std::path::Path;
 use std::process::ExitCode;
 
 use reference::generate::NodeLines;
-use reference::{aes_vectors, bench, calls, function_vectors, generate};
+use reference::{aes_vectors, bench, bench_lines, calls, function_vectors, generate};
 
 const USAGE: &str = "\
 usage: reference aes-vectors | function-vectors | calls | bench
        reference generate [--no-node] DIR
-       reference generate-bench DIR";
+       reference generate-bench DIR
+       reference bench-load LINES";
 
 fn main() -> ExitCode {
     let arguments: Vec<_> = std::env::args_os().skip(1).collect();
@@ -20,6 +21,10 @@ fn main() -> ExitCode {
         [Some("function-vectors")] => answer(function_vectors::answers),
         [Some("calls")] => answer(calls::answers),
         [Some("bench")] => answer(bench::answers),
+        [Some("bench-load"), Some(lines)] => match lines.parse() {
+            Ok(lines) => io::stdout().write_all(&bench_lines::load(lines)),
+            Err(_) => Err(io::Error::other("LINES is not a number")),
+        },
         [Some("generate-bench"), _] => {
             write_files(&generate::bench_files(), Path::new(&arguments[1]))
         }
