@@ -16,18 +16,6 @@ ghost use Rattle.bench_state.specs.Bench.{Bench as BenchOf, askAnswer, cardAnsw
 ghost use Rattle.bench_state.specs.Views.{benchOf, actedOf};
 ghost use Rattle.bench_ask.specs.Steps.{sqnAsked, Failed, OnAuts, OnPass};
 
-// The node's refusal number, 0 for none.
-fn refusal_of(outcome: Outcome) -> u8
-    ensures { λ r. ⌜ r ≡ refusalOf (outcomeOf outcome) ⌝ }
-{
-    match outcome {
-        Outcome::Done => 0,
-        Outcome::Passed => 0,
-        Outcome::Cause(number) => 0,
-        Outcome::Refused(number) => number,
-    }
-}
-
 // What the node says of RES: it passes, or has its cause.
 fn judged(outcome: Outcome, sqn: u64, left: u8) -> Reply
     ensures { λ r. ⌜ ((bench : BenchOf) → sqn ≡ sqnAsked bench → replyOf r ≡ judgedOf bench (outcomeOf outcome) left) ⌝ }
@@ -44,7 +32,7 @@ fn judged(outcome: Outcome, sqn: u64, left: u8) -> Reply
 fn unless_refused(bench: Bench, outcome: Outcome, rest: Acted) -> Acted
     ensures { λ r. ⌜ actedOf r ≡ unlessRefused (benchOf bench) (refusalOf (outcomeOf outcome)) (actedOf rest) ⌝ }
 {
-    let number = refusal_of(outcome);
+    let number = bench_state::node_refusal(outcome);
     if number != 0 {
         return bench_state::stays(bench, Reply::Refused(number as u64));
     }
@@ -153,7 +141,7 @@ pub fn ask(bench: Bench) -> Acted
     let vlr = bench.vlr;
     let request = vlr::ask(vlr);
     let outcome = request.outcome;
-    let number = refusal_of(outcome);
+    let number = bench_state::node_refusal(outcome);
     if number != 0 {
         return bench_state::stays(bench, Reply::Refused(number as u64));
     }
