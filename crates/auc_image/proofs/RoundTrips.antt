@@ -111,6 +111,10 @@ module _ (w : ℕ) (family : Family) (filled : seqBits w + w ≡ 48) (few : (set
         valid-iff w family (readImage w x) .1
         (known-set family x (tests .1), le-ones (seqBits w) (first-fits (seqBits w) w filled last), second-fits (seqBits w) w filled last)
 
+    -- the image has its length, and its record is valid
+    pub sound : (length x ≡ imageSize) × (validAuc w family (readAnswer w family x .auc) ≡ true)
+    sound = (eqb-true (length x) imageSize (tests .0), ap (λ (r : Read). validAuc w family (r .auc)) answer ∙ valid)
+
   pub written-read : (x buffer : Octets) → Below 256 x → readAnswer w family x .refusal ≡ 0 → length buffer ≡ imageSize
       → writeAnswer w family (readAnswer w family x .auc) buffer ≡ record { refusal = 0; image = x }
   unfolding writeAnswer
@@ -132,3 +136,6 @@ reading-written = read-written 5 sets refl few-sets
 pub writing-read : (x buffer : Octets) → Below 256 x → readAnswer 5 sets x .refusal ≡ 0 → length buffer ≡ imageSize
     → writeAnswer 5 sets (readAnswer 5 sets x .auc) buffer ≡ record { refusal = 0; image = x }
 writing-read = written-read 5 sets refl few-sets
+
+pub reading-sound : (x : Octets) → readAnswer 5 sets x .refusal ≡ 0 → (length x ≡ imageSize) × (validAuc 5 sets (readAnswer 5 sets x .auc) ≡ true)
+reading-sound = sound 5 sets refl few-sets

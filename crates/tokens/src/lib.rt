@@ -1,6 +1,6 @@
 // The octets of AUTN and AUTS, and the SQN in them: what USIM and AuC share.
 ghost use mathlib.Core.Path.{_≡_};
-ghost use Prim.Native.Nat.{_<_};
+ghost use Prim.Native.Nat.{_<_, _^_};
 ghost use Rattle.octets.specs.Octets.{xor, equal, encode, decode};
 ghost use Rattle.aka.specs.Layout.{readAutn, writeAutn, readAuts, writeAuts};
 
@@ -38,7 +38,7 @@ fn wide(x: u8) -> u64
 
 // The number that the octets of an SQN spell.
 pub fn sqn_number(x: [u8; 6]) -> u64
-    ensures { λ r. ⌜ r ≡ decode x ⌝ }
+    ensures { λ r. ⌜ (r ≡ decode x) × (r < 2 ^ 48) ⌝ }
 {
     let a = wide(x[0]);
     let b = a * 256 + wide(x[1]);

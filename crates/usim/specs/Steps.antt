@@ -1,5 +1,5 @@
 -- What the code knows on its way to the answer. Assumes nothing: these are definitions.
-use Prim.Native.Nat.{ℕ}
+use Prim.Native.Nat.{ℕ, _<_, _^_}
 use mathlib.Core.Bool.{true}
 use mathlib.Core.List.{List}
 use mathlib.Core.Path.{_≡_}
@@ -17,9 +17,11 @@ pub record Authentic (keys : Keys) (rand autn : Octets) (w : List ℕ) (c : Chal
   pub started : Started keys rand w c
   pub mac : macRight (sets .under keys) rand autn ≡ true
   pub sqn : n ≡ decode (sqnIn (sets .under keys) rand autn)
+  pub fits : n < 2 ^ 48
   pub res : r ≡ sets .under keys .f2 rand
 
 -- the whole answer for a verdict
 pub record Answers (usim : Usim) (rand autn : Octets) (verdict : Verdict) (r : Answer) : Type 0 where
   pub answer : answerOf r ≡ answerWith 5 sets usim rand autn verdict
   pub sqn : sqnGiven (r .verdict) ≡ sqnDue (verdictOf (r .verdict)) usim rand autn
+  pub fits : sqnGiven (r .verdict) < 2 ^ 48

@@ -4,6 +4,7 @@ use functions::Challenge;
 use functions::Keys;
 ghost use mathlib.Core.Bool.{true};
 ghost use mathlib.Core.Path.{_≡_};
+ghost use Prim.Native.Nat.{_<_, _^_};
 ghost use Rattle.octets.specs.Octets.{Octets, encode};
 ghost use Rattle.aes_tables.specs.RoundTable.{IsRoundTable};
 ghost use Rattle.functions.specs.Challenge.{keysOf, Started};
@@ -172,7 +173,7 @@ fn authenticate(usim: Usim, rand: [u8; 16], autn: [u8; 16]) -> Answer
 // The USIM's whole answer to a challenge of any octets.
 pub fn challenge(usim: Usim, rand: &[u8], autn: &[u8]) -> Answer
     ensures answer { λ r. ⌜ answerOf r ≡ challengeOf 5 sets (usimOf usim) (now (rand .entry)) (now (autn .entry)) ⌝ }
-    ensures sqn { λ r. ⌜ sqnGiven (r .verdict) ≡ sqnDue (verdictOf (r .verdict)) (usimOf usim) (now (rand .entry)) (now (autn .entry)) ⌝ }
+    ensures sqn { λ r. ⌜ (sqnGiven (r .verdict) ≡ sqnDue (verdictOf (r .verdict)) (usimOf usim) (now (rand .entry)) (now (autn .entry))) × (sqnGiven (r .verdict) < 2 ^ 48) ⌝ }
 {
     if !is_valid(usim) {
         return unchanged(Verdict::Refused(1), usim, [0; 14]);

@@ -107,6 +107,10 @@ module _ (w : ℕ) (family : Family) (filled : seqBits w * indices w ≡ 8 * pla
     unfolding validUsim readImage
     valid = rw (known-set family x (tests .1)) (below-within (seqBits w) _ (digits-below (2 ^ seqBits w) (indices w) (decode (part 33 (placesSize w) x)) (pow-pos (seqBits w))))
 
+    -- the image has its length, and its record is valid
+    pub sound : (length x ≡ imageSize w) × (validUsim w family (readAnswer w family x .usim) ≡ true)
+    sound = (eqb-true (length x) (imageSize w) (tests .0), ap (λ (r : Read). validUsim w family (r .usim)) answer ∙ valid)
+
   pub written-read : (x buffer : Octets) → Below 256 x → readAnswer w family x .refusal ≡ 0 → length buffer ≡ imageSize w
       → writeAnswer w family (readAnswer w family x .usim) buffer ≡ record { refusal = 0; image = x }
   unfolding writeAnswer
@@ -128,3 +132,6 @@ reading-written = read-written 5 sets refl few-sets
 pub writing-read : (x buffer : Octets) → Below 256 x → readAnswer 5 sets x .refusal ≡ 0 → length buffer ≡ imageSize 5
     → writeAnswer 5 sets (readAnswer 5 sets x .usim) buffer ≡ record { refusal = 0; image = x }
 writing-read = written-read 5 sets refl few-sets
+
+pub reading-sound : (x : Octets) → readAnswer 5 sets x .refusal ≡ 0 → (length x ≡ imageSize 5) × (validUsim 5 sets (readAnswer 5 sets x .usim) ≡ true)
+reading-sound = sound 5 sets refl few-sets

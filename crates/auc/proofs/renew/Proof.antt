@@ -25,7 +25,7 @@ module _ (c : tie.After-in-range) (rand : Octets) (s : Started (keysOf (entry c 
   ms = seqMsIn 5 (sets .under (keysOf (entry c .args .auc .keys))) rand (entry c .args .auts)
 
   ms-is : c .before .sqn-number .result / 32 ≡ ms
-  ms-is = ap (λ (x : ℕ). x / 32) (c .before .sqn-number .ensures ∙ ap decode (c .before .before .sqn-ms .ensures (keysOf (entry c .args .auc .keys)) rand s))
+  ms-is = ap (λ (x : ℕ). x / 32) (c .before .sqn-number .ensures .0 ∙ ap decode (c .before .before .sqn-ms .ensures (keysOf (entry c .args .auc .keys)) rand s))
 
   range-is : (b : Bool) → c .in-range .result ≡ b → inRange auc₀ ms (entry c .args .n) ≡ b
   range-is b e = ap (λ (m : ℕ). inRange auc₀ m (entry c .args .n)) (sym ms-is) ∙ sym (c .in-range .ensures) ∙ e

@@ -10,7 +10,7 @@ use Rattle.auc_image.proofs.sqn_in.Tie as tie
 returns : tie.Need-returns
 returns c =
     let entry = c .before .before .before .before .before .before .before .before in
-    c .sqn-number .ensures ∙ ap decode (listed-part (entry .args .image .now) 35 6 (omega arith))
+    c .sqn-number .ensures .0 ∙ ap decode (listed-part (entry .args .image .now) 35 6 (omega arith))
 
 pub sqn-in-spec : {M : Type 1} → statement M
 sqn-in-spec =

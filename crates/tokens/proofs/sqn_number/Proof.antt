@@ -11,7 +11,7 @@ returns : tie.Need-returns
 unfolding spelt
 returns c =
     let start = c .before .before .before .before .before .before in
-    omega (arith, ap decode (listed-all (start .args .t1) 6 (start .good .0 .1 .0 .1)))
+    (omega (arith, ap decode (listed-all (start .args .t1) 6 (start .good .0 .1 .0 .1))), omega arith)
 
 pub sqn-number-spec : {M : Type 1} → statement M
 sqn-number-spec =

@@ -13,6 +13,7 @@ returns c = λ rand autn a.
     record {
       answer = rw (a .sqn, a .res, c .before .f3 .ensures keys rand (a .started), c .f4 .ensures keys rand (a .started)) refl;
       sqn = a .sqn;
+      fits = a .fits;
     }
 
 pub accept-spec : {M : Type 1} → statement M

@@ -1,6 +1,7 @@
 -- `judge` is the judgement: first MAC, then freshness. Assumes nothing.
 use mathlib.Core.Bool.{false}
 use mathlib.Core.Path.{_≡_, refl, sym, ap, _∙_}
+use native.Mathlib.Omega.{arith}
 use borrow.Author.Tests.{not-true, not-false}
 use Rattle.octets.specs.Octets.{Octets, xor, decode}
 use Rattle.functions.specs.Challenge.{keysOf, Started}
@@ -30,7 +31,7 @@ returns c = λ rand s.
     let sqn = sqn-is (judged .before) rand s in
     let wrong : judged .mac-right .result ≡ false = not-true _ (c .before .if1 .taken) in
     let mac : judgement 5 sets usim rand (start .args .autn) ≡ macFailure = rw (← judged .mac-right .ensures (usim .keys) rand s sqn, wrong) refl in
-    rw mac (record { answer = c .unchanged .ensures .0; sqn = rw (c .unchanged .ensures .1) })
+    rw mac (record { answer = c .unchanged .ensures .0; sqn = rw (c .unchanged .ensures .1); fits = rw (c .unchanged .ensures .1) (omega arith) })
 
 returns-2 : tie.Need-returns-2
 returns-2 c = λ rand s.
@@ -42,7 +43,8 @@ returns-2 c = λ rand s.
     (record {
       started = s;
       mac = sym (judged .mac-right .ensures keys rand s sqn) ∙ not-false _ (c .before .before .if1 .left);
-      sqn = c .before .sqn-number .ensures ∙ ap decode sqn;
+      sqn = c .before .sqn-number .ensures .0 ∙ ap decode sqn;
+      fits = c .before .sqn-number .ensures .1;
       res = judged .before .before .before .before .f2-f5 .ensures keys rand s .0;
     })
 

@@ -1,6 +1,7 @@
 -- `judge_sqn` is the judgement once MAC is right. Assumes nothing.
 use mathlib.Core.Bool.{true, false}
 use mathlib.Core.Path.{_≡_, refl, ap, _∙_}
+use native.Mathlib.Omega.{arith}
 use borrow.Author.Tests.{not-true, not-false}
 use Rattle.functions.specs.Challenge.{keysOf}
 use Rattle.functions.specs.Sets.{sets}
@@ -21,6 +22,7 @@ returns c = λ rand autn a.
     (record {
       answer = c .unchanged .ensures .0 ∙ ap (unchanged syncFailure (usimOf usim)) (c .before .auts .ensures (keysOf (usim .keys)) rand (a .started));
       sqn = rw (c .unchanged .ensures .1);
+      fits = rw (c .unchanged .ensures .1) (omega arith);
     })
 
 returns-2 : tie.Need-returns-2
