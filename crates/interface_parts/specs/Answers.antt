@@ -1,0 +1,65 @@
+-- What a call of the C interface leaves in the octets lent to it, once the record was read from its image. Assumes nothing: these are definitions.
+use Prim.Native.Nat.{ℕ}
+use mathlib.Core.Path.{_≡_}
+use lib.ListN.{length}
+use Rattle.octets.specs.Octets.{Octets}
+use Rattle.aka.specs.Layout.{resSize, ckSize, ikSize, autsSize}
+use Rattle.aka.specs.Usim as card
+use Rattle.aka.specs.Auc as centre
+use Rattle.usim_image.specs.Image as usim
+use Rattle.auc_image.specs.Image as auc
+use Rattle.interface_parts.specs.Results.{verdictResult, outcomeResult}
+
+-- ---- the centre: what it returns, and what image and batch hold at the end
+
+pub record Batched : Type 0 where
+  pub result : ℕ
+  pub image : Octets
+  pub batch : Octets
+
+-- the image becomes that of the next record, and with a refusal stays
+abbrev pub imageAfter : centre.Outcome → (image next : Octets) → Octets
+imageAfter centre.given image next = next
+imageAfter centre.kept image next = next
+imageAfter centre.reset image next = next
+imageAfter (centre.refused number) image next = image
+imageAfter (centre.repeated i j) image next = image
+
+abbrev pub settled : (image : Octets) → centre.AucAnswer → Batched
+settled image a = record {
+  result = outcomeResult (a .outcome);
+  image = imageAfter (a .outcome) image (auc.image 5 (a .auc));
+  batch = a .batch;
+}
+
+-- ---- the card: what it returns, and what image, RES, CK, IK and AUTS hold at the end
+
+pub record Challenged : Type 0 where
+  pub result : ℕ
+  pub image : Octets
+  pub res : Octets
+  pub ck : Octets
+  pub ik : Octets
+  pub auts : Octets
+
+-- the lengths of RES, CK, IK and AUTS
+abbrev pub Lent : (res ck ik auts : Octets) → Type 0
+Lent res ck ik auts = (length res ≡ resSize) × (length ck ≡ ckSize) × (length ik ≡ ikSize) × (length auts ≡ autsSize)
+
+-- all as they were
+abbrev pub untouched : (result : ℕ) (image res ck ik auts : Octets) → Challenged
+untouched result image res ck ik auts = record { result = result; image = image; res = res; ck = ck; ik = ik; auts = auts }
+
+-- the answer's octets
+abbrev pub filled : (result : ℕ) (image : Octets) → card.UsimAnswer → Challenged
+filled result image a = record { result = result; image = image; res = a .res; ck = a .ck; ik = a .ik; auts = a .auts }
+
+-- the image changes with an acceptance only
+abbrev pub answeredAs : card.Verdict → (image res ck ik auts : Octets) → card.UsimAnswer → (sqn : ℕ) → Challenged
+answeredAs card.accepted image res ck ik auts a sqn = filled (verdictResult card.accepted sqn) (usim.image 5 (a .usim)) a
+answeredAs card.macFailure image res ck ik auts a sqn = filled (verdictResult card.macFailure sqn) image a
+answeredAs card.syncFailure image res ck ik auts a sqn = filled (verdictResult card.syncFailure sqn) image a
+answeredAs (card.refused number) image res ck ik auts a sqn = untouched (verdictResult (card.refused number) sqn) image res ck ik auts
+
+abbrev pub answered : (image res ck ik auts : Octets) → card.UsimAnswer → (sqn : ℕ) → Challenged
+answered image res ck ik auts a sqn = answeredAs (a .verdict) image res ck ik auts a sqn

@@ -1,0 +1,56 @@
+-- The card's answer as the interface hands it on. Assumes nothing.
+use Prim.Native.Nat.{ℕ, _<_, _^_}
+use mathlib.Core.Bool.{true}
+use mathlib.Core.Path.{_≡_, refl, sym, ap, _∙_}
+use native.Mathlib.Omega.{arith}
+use lib.ListN.{length}
+use Rattle.octets.specs.Octets.{Octets, decode}
+use Rattle.functions.specs.Sets.{sets}
+use Rattle.aka.specs.Sequence.{limit}
+use Rattle.aka.specs.Usim.{Usim, UsimAnswer, Verdict, accepted, macFailure, syncFailure, refused, validUsim, seqIn, indIn, sqnIn, answerWith, challenge}
+use Rattle.aka.proofs.Places.{within-set}
+use Rattle.aka.proofs.Sequence.{seq-le}
+use Rattle.aka.proofs.Verdicts.{valid-parts, answer-of, not-accepted-unchanged}
+use Rattle.usim.specs.Views.{sqnDue}
+use Rattle.usim_image.specs.Image.{Read, imageSize, readAnswer}
+use Rattle.usim_image.proofs.RoundTrips.{reading-sound}
+use Rattle.interface_parts.specs.Answers.{answered}
+
+module _ (card : Usim) (rand autn : Octets) where
+  abbrev due : UsimAnswer
+  due = challenge 5 sets card rand autn
+
+  -- the code's answer and SQN are the ones due
+  pub handed-on : (image res ck ik auts : Octets) (a : UsimAnswer) {sqn : ℕ} → a ≡ due → sqn ≡ sqnDue (a .verdict) card rand autn
+      → answered image res ck ik auts a sqn ≡ answered image res ck ik auts due (sqnDue (due .verdict) card rand autn)
+  handed-on image res ck ik auts a e s = rw (s, e) refl
+
+  -- an SQN of 48 bits leaves a valid record valid
+  module _ (valid : validUsim 5 sets card ≡ true) where
+    accepted-valid : due .verdict ≡ accepted → decode (sqnIn (sets .under (card .keys)) rand autn) < 2 ^ 48 → validUsim 5 sets (due .usim) ≡ true
+    unfolding answerWith validUsim
+    accepted-valid e fits =
+        let parts = valid-parts 5 sets card valid in
+        let F = sets .under (card .keys) in
+        ap (λ (a : UsimAnswer). validUsim 5 sets (a .usim)) (answer-of 5 sets card rand autn accepted e)
+        ∙ rw (parts .0) (within-set (limit 5) (card .places) (indIn 5 F rand autn) (seqIn 5 F rand autn) (seq-le 5 (omega arith) (decode (sqnIn F rand autn)) fits) (parts .1))
+
+    other-valid : (due .verdict ≡ accepted → ⊥) → validUsim 5 sets (due .usim) ≡ true
+    other-valid h = ap (validUsim 5 sets) (not-accepted-unchanged 5 sets card rand autn h) ∙ valid
+
+    stays-valid : (v : Verdict) → due .verdict ≡ v → sqnDue v card rand autn < 2 ^ 48 → validUsim 5 sets (due .usim) ≡ true
+    stays-valid accepted e fits = accepted-valid e fits
+    stays-valid macFailure e fits = other-valid (λ q. let z : _≡_ {A = ℕ} 0 1 = cc in omega arith)
+    stays-valid syncFailure e fits = other-valid (λ q. let z : _≡_ {A = ℕ} 0 1 = cc in omega arith)
+    stays-valid (refused number) e fits = other-valid (λ q. let z : _≡_ {A = ℕ} 0 1 = cc in omega arith)
+
+    pub next-valid : (a : UsimAnswer) {sqn : ℕ} → a ≡ due → sqn ≡ sqnDue (a .verdict) card rand autn → sqn < 2 ^ 48 → validUsim 5 sets (a .usim) ≡ true
+    next-valid a e s fits =
+        ap (λ (b : UsimAnswer). validUsim 5 sets (b .usim)) e
+        ∙ stays-valid (a .verdict) (sym (ap (λ (b : UsimAnswer). b .verdict) e)) (rw s at fits)
+
+-- an image that was read has its length and a valid record
+pub held : (x : Octets) (r : Read) → r ≡ readAnswer 5 sets x → r .refusal ≡ 0 → (length x ≡ imageSize 5) × (validUsim 5 sets (r .usim) ≡ true)
+held x r e none =
+    let sound = reading-sound x (sym (ap (λ (y : Read). y .refusal) e) ∙ none) in
+    (sound .0, ap (λ (y : Read). validUsim 5 sets (y .usim)) e ∙ sound .1)

@@ -1,0 +1,24 @@
+-- The centre's answer as the interface hands it on. Assumes nothing.
+use Prim.Native.Nat.{ℕ}
+use mathlib.Core.Bool.{true}
+use mathlib.Core.Path.{_≡_, refl, sym, ap, _∙_}
+use lib.ListN.{length}
+use Rattle.octets.specs.Octets.{Octets}
+use Rattle.functions.specs.Sets.{sets}
+use Rattle.aka.specs.Auc.{AucAnswer, validAuc}
+use Rattle.auc_image.specs.Image.{Read, image as aucImage, imageSize, readAnswer}
+use Rattle.auc_image.proofs.RoundTrips.{reading-sound}
+use Rattle.interface_parts.specs.Results.{outcomeResult}
+use Rattle.interface_parts.specs.Answers.{Batched, imageAfter, settled}
+
+-- an image that was read has its length and a valid record
+pub held : (x : Octets) (r : Read) → r ≡ readAnswer 5 sets x → r .refusal ≡ 0 → (length x ≡ imageSize) × (validAuc 5 sets (r .auc) ≡ true)
+held x r e none =
+    let sound = reading-sound x (sym (ap (λ (y : Read). y .refusal) e) ∙ none) in
+    (sound .0, ap (λ (y : Read). validAuc 5 sets (y .auc)) e ∙ sound .1)
+
+-- the code's answer is the one due
+pub handed-on : (image : Octets) (a due : AucAnswer) {result : ℕ} {next : Octets} → a ≡ due
+    → (result ≡ outcomeResult (a .outcome)) × (next ≡ imageAfter (a .outcome) image (aucImage 5 (a .auc)))
+    → record { result = result; image = next; batch = a .batch } ≡ settled image due
+handed-on image a due e told = rw (told .0, told .1, e) refl

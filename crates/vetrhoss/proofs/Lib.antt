@@ -1,0 +1,4 @@
+mod Filling
+mod Card
+mod Centre
+mod Place
