@@ -8,7 +8,7 @@ rounds=${2:-7}
 
 rt check bench >&2
 cargo build --quiet --release --offline --manifest-path reference/Cargo.toml
-second=reference/target/release/reference
+second=${CARGO_TARGET_DIR:-reference/target}/release/reference
 work=$(mktemp -d)
 trap 'rm -rf "$work"' EXIT
 "$second" bench-load "$lines" > "$work/load"

@@ -1,0 +1,87 @@
+//! The sets of TS 35.208: OPc, and the vector that the centre makes of each.
+
+use reference::auc::Auc;
+use reference::auc_image;
+use reference::block::xor;
+use reference::functions::Subscriber;
+use reference::published::{self, MilenageVector};
+use reference::random::Random;
+use reference::text::read_hex;
+use reference::usim::{ind, seq, sqn_of_bytes};
+use reference::vector::LENGTH;
+
+use crate::call::{Call, Function};
+use crate::compare::Comparison;
+
+fn hex<const N: usize>(digits: &str) -> [u8; N] {
+    read_hex(digits.as_bytes()).expect("hex of this length")
+}
+
+pub fn compare(comparison: &mut Comparison, _: &mut Random) -> Result<(), String> {
+    for set in published::milenage() {
+        opc(comparison, &set)?;
+        vector(comparison, &set)?;
+    }
+    Ok(())
+}
+
+/// The outcome's last buffer is the one that was filled.
+fn gives(comparison: &mut Comparison, call: &Call, published: &[u8]) -> Result<(), String> {
+    let outcome = comparison.call(call)?;
+    match outcome.buffers.last() {
+        Some(filled) if filled == published => Ok(()),
+        _ => Err(format!(
+            "{:?} does not give what is published",
+            call.function
+        )),
+    }
+}
+
+fn opc(comparison: &mut Comparison, set: &MilenageVector) -> Result<(), String> {
+    let (k, op) = (hex::<16>(set.k), hex::<16>(set.op));
+    let call = Call {
+        function: Function::Opc,
+        number: 0,
+        buffers: vec![k.to_vec(), op.to_vec(), vec![0; 16]],
+    };
+    gives(comparison, &call, &hex::<16>(set.opc))
+}
+
+/// A centre that stands just before the published SQN.
+fn vector(comparison: &mut Comparison, set: &MilenageVector) -> Result<(), String> {
+    let sqn = sqn_of_bytes(&hex(set.sqn));
+    let subscriber = Subscriber {
+        set: 1,
+        k: hex(set.k),
+        opc: hex(set.opc),
+    };
+    let auc = Auc {
+        seq_he: seq(sqn) - 1,
+        next: ind(sqn) as u8,
+        ..Auc::new(subscriber, hex(set.amf))
+    };
+    let image = auc_image::image(&auc).map_err(|refusal| format!("{refusal:?}"))?;
+    let call = Call {
+        function: Function::Order,
+        number: 1,
+        buffers: vec![
+            image.to_vec(),
+            hex::<16>(set.rand).to_vec(),
+            vec![0; LENGTH],
+        ],
+    };
+    gives(comparison, &call, &published_vector(set))
+}
+
+/// RAND, f2, f3, f4, and as AUTN: SQN xor f5, AMF, f1.
+fn published_vector(set: &MilenageVector) -> Vec<u8> {
+    let concealed = xor::<6>(&hex(set.sqn), &hex(set.f5));
+    let mut vector = hex::<16>(set.rand).to_vec();
+    vector.extend(hex::<8>(set.f2));
+    vector.extend(hex::<16>(set.f3));
+    vector.extend(hex::<16>(set.f4));
+    vector.extend(concealed);
+    vector.extend(hex::<2>(set.amf));
+    vector.extend(hex::<8>(set.f1));
+    vector
+}

@@ -1,0 +1,134 @@
+//! What the second program answers, put together from its own functions.
+
+use reference::auc::{Auc, Refused, Start, BAD_COUNT};
+use reference::functions::Subscriber;
+use reference::usim::{Card, Refusal, Verdict, BAD_LENGTH, BAD_RECORD};
+use reference::vector::{handed_back, MOST};
+use reference::{auc_image, image, milenage};
+use vetrhoss::{Answer, DONE, KEPT, MAC_FAILURE, RESET, SYNCH_FAILURE};
+
+use crate::call::{named, Function};
+
+pub fn answer(function: Function, number: u64, lent: Vec<&mut [u8]>) -> Answer {
+    let answered = match function {
+        Function::Opc => opc(named(lent)),
+        Function::NewUsim => new_usim(number, named(lent)),
+        Function::NewAuc => new_auc(number, named(lent)),
+        Function::Challenge => challenge(named(lent)),
+        Function::Order => order(number, named(lent)),
+        Function::Resynchronise => resynchronise(number, named(lent)),
+        Function::VectorAt => vector_at(number, named(lent)),
+    };
+    answered.unwrap_or_else(refused)
+}
+
+fn done(value: u64) -> Answer {
+    Answer {
+        number: DONE,
+        value,
+    }
+}
+
+fn without_value(number: u8) -> Answer {
+    Answer { number, value: 0 }
+}
+
+fn refused(refused: Refused) -> Answer {
+    let value = match refused {
+        Refused::By(_) => 0,
+        Refused::EqualRands(first, second) => (first + 256 * second) as u64,
+    };
+    Answer {
+        number: refused.number(),
+        value,
+    }
+}
+
+fn sized<const N: usize>(bytes: &[u8]) -> Result<[u8; N], Refusal> {
+    bytes.try_into().map_err(|_| BAD_LENGTH)
+}
+
+fn place<const N: usize>(bytes: &mut [u8]) -> Result<&mut [u8; N], Refusal> {
+    bytes.try_into().map_err(|_| BAD_LENGTH)
+}
+
+fn opc([k, op, opc]: [&mut [u8]; 3]) -> Result<Answer, Refused> {
+    let (k, op) = (sized(k)?, sized(op)?);
+    *place(opc)? = milenage::opc(&k, &op);
+    Ok(done(0))
+}
+
+/// The set is judged before any size.
+fn subscriber(set: u64, k: &[u8], opc: &[u8]) -> Result<Subscriber, Refusal> {
+    let set = match set {
+        0 => 0,
+        1 => 1,
+        _ => return Err(BAD_RECORD),
+    };
+    let (k, opc) = (sized(k)?, sized(opc)?);
+    Ok(Subscriber { set, k, opc })
+}
+
+fn new_usim(set: u64, [k, opc, image]: [&mut [u8]; 3]) -> Result<Answer, Refused> {
+    image::write(&Card::new(subscriber(set, k, opc)?), image)?;
+    Ok(done(0))
+}
+
+fn new_auc(set: u64, [k, opc, amf, image]: [&mut [u8]; 4]) -> Result<Answer, Refused> {
+    let subscriber = subscriber(set, k, opc)?;
+    auc_image::write(&Auc::new(subscriber, sized(amf)?), image)?;
+    Ok(done(0))
+}
+
+fn challenge(lent: [&mut [u8]; 7]) -> Result<Answer, Refused> {
+    let [image, rand, autn, res, ck, ik, auts] = lent;
+    let card = image::read(image)?;
+    let (res, ck, ik, auts) = (place(res)?, place(ck)?, place(ik)?, place(auts)?);
+    let answer = card.challenge(rand, autn);
+    let verdict = match answer.verdict {
+        Verdict::Accepted { sqn } => done(sqn),
+        Verdict::Mac => without_value(MAC_FAILURE),
+        Verdict::Sync => without_value(SYNCH_FAILURE),
+        Verdict::Refused(refusal) => return Err(refusal.into()),
+    };
+    *res = answer.res;
+    *ck = answer.ck;
+    *ik = answer.ik;
+    *auts = answer.auts;
+    image::write(&answer.card, image)?;
+    Ok(verdict)
+}
+
+/// The count is judged without the contents of an image of another length.
+fn centre(image: &[u8], count: u64) -> Result<Auc, Refusal> {
+    match auc_image::read(image) {
+        Err(BAD_LENGTH) if count > MOST as u64 => Err(BAD_COUNT),
+        read => read,
+    }
+}
+
+fn order(count: u64, [image, rands, batch]: [&mut [u8]; 3]) -> Result<Answer, Refused> {
+    let next = centre(image, count)?.order(count, rands, batch)?;
+    auc_image::write(&next, image)?;
+    Ok(done(0))
+}
+
+fn resynchronise(count: u64, lent: [&mut [u8]; 5]) -> Result<Answer, Refused> {
+    let [image, rand, auts, rands, batch] = lent;
+    let (start, next) = centre(image, count)?.resync(count, [rand, auts], rands, batch)?;
+    auc_image::write(&next, image)?;
+    Ok(match start {
+        Start::Kept => done(KEPT),
+        Start::Reset => done(RESET),
+    })
+}
+
+fn vector_at(k: u64, [batch]: [&mut [u8]; 1]) -> Result<Answer, Refused> {
+    let vector = handed_back(batch, k);
+    if vector.is_empty() {
+        return Err(BAD_LENGTH.into());
+    }
+    Ok(done(
+        (vector.as_ptr().addr() - batch.as_ptr().addr()) as u64,
+    ))
+}

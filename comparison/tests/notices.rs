@@ -1,0 +1,115 @@
+//! The comparison notices what it is there to notice: each library here is the
+//! second program with one fault.
+
+use comparison::call::{is_refusal, Function};
+use comparison::compare::Comparison;
+use comparison::tally::Tally;
+use comparison::{cases, chains, second, sizes};
+use reference::random::Random;
+use vetrhoss::{Answer, DONE, MAC_FAILURE, SYNCH_FAILURE};
+
+/// Spoils an answer or the buffers after the call.
+type Fault = fn(Function, &mut Answer, &mut [&mut [u8]]);
+
+type Part = fn(&mut Comparison, &mut Random) -> Result<(), String>;
+
+fn compare(part: Part, fault: Fault) -> Result<(), String> {
+    let library = move |function, number, mut lent: Vec<&mut [u8]>| {
+        let again = lent.iter_mut().map(|buffer| &mut buffer[..]).collect();
+        let mut answer = second::answer(function, number, again);
+        fault(function, &mut answer, &mut lent);
+        answer
+    };
+    let mut comparison = Comparison::new(&library, Random::new(1));
+    part(&mut comparison, &mut Random::new(2))
+}
+
+fn is_noticed(fault: Fault) -> bool {
+    compare(cases::compare, fault).is_err()
+}
+
+#[test]
+fn without_a_fault_all_agree() {
+    let parts: [Part; 3] = [cases::compare, chains::compare, sizes::compare];
+    for part in parts {
+        assert_eq!(compare(part, |_, _, _| ()), Ok(()));
+    }
+}
+
+#[test]
+fn a_byte_beyond_the_end() {
+    // The byte is a guard: it lies in the same memory as the buffer.
+    assert!(is_noticed(|function, answer, lent| {
+        if function == Function::Order && answer.number == DONE {
+            unsafe { *lent[2].as_mut_ptr_range().end ^= 1 }
+        }
+    }));
+}
+
+#[test]
+fn a_byte_before_the_start() {
+    assert!(is_noticed(|function, answer, lent| {
+        if function == Function::Challenge && answer.number == MAC_FAILURE {
+            unsafe { *lent[0].as_mut_ptr().sub(1) ^= 1 }
+        }
+    }));
+}
+
+#[test]
+fn a_buffer_touched_on_refusal() {
+    assert!(is_noticed(|function, answer, lent| {
+        if function == Function::Order && answer.number == 6 {
+            lent[2][0] ^= 1;
+        }
+    }));
+}
+
+#[test]
+fn an_input_touched() {
+    assert!(is_noticed(|function, answer, lent| {
+        if function == Function::Resynchronise && answer.number == DONE {
+            lent[2][13] ^= 1;
+        }
+    }));
+}
+
+#[test]
+fn another_refusal() {
+    assert!(is_noticed(|_, answer, _| {
+        if is_refusal(*answer) && answer.number == 5 {
+            answer.number = 6;
+        }
+    }));
+}
+
+#[test]
+fn an_sqn_off_by_one() {
+    assert!(is_noticed(|function, answer, _| {
+        if function == Function::Challenge && answer.number == DONE {
+            answer.value += 1;
+        }
+    }));
+}
+
+#[test]
+fn the_last_vector_of_five() {
+    assert!(is_noticed(|function, _, lent| {
+        if function == Function::Order && lent[2].len() == 360 {
+            lent[2][359] ^= 1;
+        }
+    }));
+}
+
+#[test]
+fn keys_left_at_a_synchronisation_failure() {
+    assert!(is_noticed(|function, answer, lent| {
+        if function == Function::Challenge && answer.number == SYNCH_FAILURE {
+            lent[4].fill(0xaa);
+        }
+    }));
+}
+
+#[test]
+fn an_answer_that_is_never_met() {
+    assert!(Tally::default().is_full().is_err());
+}

@@ -1,0 +1,140 @@
+//! A library that gives another refusal than the lowest is noticed: each one
+//! here is the second program with two refusals looked at in the wrong order.
+
+use comparison::call::Function;
+use comparison::compare::Comparison;
+use comparison::{cases, second};
+use reference::random::Random;
+use vetrhoss::Answer;
+
+/// The refusal that comes too early, or 0.
+type Early = fn(Function, u64, &[&mut [u8]]) -> u8;
+
+fn is_noticed(early: Early) -> bool {
+    let library = move |function, number, lent: Vec<&mut [u8]>| match early(function, number, &lent)
+    {
+        0 => second::answer(function, number, lent),
+        refusal => Answer {
+            number: refusal,
+            value: 0,
+        },
+    };
+    let mut comparison = Comparison::new(&library, Random::new(3));
+    cases::compare(&mut comparison, &mut Random::new(4)).is_err()
+}
+
+/// The refusal where the sizes are not the ones named.
+fn unless_sized(lent: &[&mut [u8]], sizes: &[usize]) -> u8 {
+    let named = lent
+        .iter()
+        .zip(sizes)
+        .all(|(buffer, &size)| buffer.len() == size);
+    if named {
+        0
+    } else {
+        3
+    }
+}
+
+/// What the call would answer with other buffers, where that is one of the given
+/// refusals.
+fn answer_with(function: Function, number: u64, buffers: &mut [Vec<u8>], refusals: &[u8]) -> u8 {
+    let lent = buffers.iter_mut().map(|buffer| &mut buffer[..]).collect();
+    let answer = second::answer(function, number, lent).number;
+    if refusals.contains(&answer) {
+        answer
+    } else {
+        0
+    }
+}
+
+#[test]
+fn size_before_set() {
+    assert!(is_noticed(|function, _, lent| match function {
+        Function::NewUsim => unless_sized(lent, &[16, 16, 205]),
+        _ => 0,
+    }));
+    assert!(is_noticed(|function, _, lent| match function {
+        Function::NewAuc => unless_sized(lent, &[16, 16, 2, 41]),
+        _ => 0,
+    }));
+    assert!(is_noticed(|function, _, lent| match function {
+        Function::Challenge => unless_sized(lent, &[205, 16, 16, 8, 16, 16, 14]),
+        _ => 0,
+    }));
+}
+
+#[test]
+fn count_before_edition() {
+    assert!(is_noticed(|function, count, _| match function {
+        Function::Order if count > 5 => 2,
+        _ => 0,
+    }));
+    assert!(is_noticed(|function, count, _| match function {
+        Function::Resynchronise if count > 5 => 2,
+        _ => 0,
+    }));
+}
+
+#[test]
+fn size_of_the_image_before_count() {
+    assert!(is_noticed(|function, _, lent| match function {
+        Function::Order => unless_sized(lent, &[41]),
+        _ => 0,
+    }));
+    assert!(is_noticed(|function, _, lent| match function {
+        Function::Resynchronise => unless_sized(lent, &[41]),
+        _ => 0,
+    }));
+}
+
+fn copies(lent: &[&mut [u8]]) -> Vec<Vec<u8>> {
+    lent.iter().map(|buffer| buffer.to_vec()).collect()
+}
+
+/// The RANDs are made unlike, so that what comes behind refusal 4 is answered.
+fn with_unlike_rands(lent: &[&mut [u8]], place: usize) -> Vec<Vec<u8>> {
+    let mut buffers = copies(lent);
+    for (number, rand) in buffers[place].chunks_mut(16).enumerate() {
+        rand[0] = number as u8;
+    }
+    buffers
+}
+
+#[test]
+fn limit_before_equal_rands() {
+    assert!(is_noticed(|function, count, lent| match function {
+        Function::Order => answer_with(function, count, &mut with_unlike_rands(lent, 1), &[6]),
+        _ => 0,
+    }));
+}
+
+#[test]
+fn mac_s_before_equal_rands() {
+    assert!(is_noticed(|function, count, lent| match function {
+        Function::Resynchronise => {
+            answer_with(function, count, &mut with_unlike_rands(lent, 3), &[5])
+        }
+        _ => 0,
+    }));
+}
+
+/// SEQ_HE has the first 43 of the image's last 48 bits; all ones are its limit.
+fn is_at_its_limit(image: &[u8]) -> bool {
+    image[35..40] == [0xff; 5] && image[40] >= 0xe0
+}
+
+#[test]
+fn limit_before_mac_s() {
+    assert!(is_noticed(|function, count, lent| match function {
+        Function::Resynchronise => {
+            let refusal = answer_with(function, count, &mut copies(lent), &[5]);
+            if refusal == 5 && is_at_its_limit(lent[0]) {
+                6
+            } else {
+                0
+            }
+        }
+        _ => 0,
+    }));
+}
