@@ -21,13 +21,9 @@ use Rattle.packing.proofs.Repacked.{repacked-back}
 use Rattle.image_parts.specs.Head.{seqBits, head, knownHead}
 use Rattle.image_parts.proofs.Heads.{few-sets, length-head, read-head, known-head, known-set, write-head}
 use Rattle.image_parts.proofs.Tests.{unrefused}
+use Rattle.usim_image.specs.RoundTrips.{Sized, RoundTrips}
 use Rattle.usim_image.specs.Image.{placesSize, imageSize, image, readImage, Read, writeAnswer, readAnswer}
 use Rattle.usim_image.proofs.Places.{below-within, valid-set, valid-places}
-
--- K and OPc have their length, and there is a place for each index (the code's types see to it)
-pub record Sized (w : ℕ) (usim : Usim) : Type 0 where
-  pub keys : Shaped (usim .keys)
-  pub places : length (usim .places) ≡ indices w
 
 -- ---- the image alone, for any index width whose places fill whole octets
 
@@ -121,17 +117,14 @@ module _ (w : ℕ) (family : Family) (filled : seqBits w * indices w ≡ 8 * pla
 
 -- ---- document 01's index width and function sets
 
--- 205 octets, and 369 with an index of 6 bits
-pub sizes : (imageSize 5 ≡ 205) × (imageSize 6 ≡ 369)
-sizes = (refl, refl)
+-- an image has 369 octets with an index of 6 bits
+wider : imageSize 6 ≡ 369
+wider = refl
 
-pub reading-written : (usim : Usim) (buffer : Octets) → Sized 5 usim → validUsim 5 sets usim ≡ true → length buffer ≡ imageSize 5
-    → readAnswer 5 sets (writeAnswer 5 sets usim buffer .image) ≡ record { refusal = 0; usim = usim }
-reading-written = read-written 5 sets refl few-sets
-
-pub writing-read : (x buffer : Octets) → Below 256 x → readAnswer 5 sets x .refusal ≡ 0 → length buffer ≡ imageSize 5
-    → writeAnswer 5 sets (readAnswer 5 sets x .usim) buffer ≡ record { refusal = 0; image = x }
-writing-read = written-read 5 sets refl few-sets
-
-pub reading-sound : (x : Octets) → readAnswer 5 sets x .refusal ≡ 0 → (length x ≡ imageSize 5) × (validUsim 5 sets (readAnswer 5 sets x .usim) ≡ true)
-reading-sound = sound 5 sets refl few-sets
+pub round-trips : RoundTrips
+round-trips = record {
+  size = refl;
+  reading-written = read-written 5 sets refl few-sets;
+  writing-read = written-read 5 sets refl few-sets;
+  sound = sound 5 sets refl few-sets;
+}

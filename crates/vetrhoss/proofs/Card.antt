@@ -13,7 +13,7 @@ use Rattle.aka.proofs.Sequence.{seq-le}
 use Rattle.aka.proofs.Verdicts.{valid-parts, answer-of, not-accepted-unchanged}
 use Rattle.usim.specs.Views.{sqnDue}
 use Rattle.usim_image.specs.Image.{Read, imageSize, readAnswer}
-use Rattle.usim_image.proofs.RoundTrips.{reading-sound}
+use Rattle.usim_image.proofs.RoundTrips.{round-trips}
 use Rattle.interface_parts.specs.Answers.{answered}
 
 module _ (card : Usim) (rand autn : Octets) where
@@ -52,5 +52,5 @@ module _ (card : Usim) (rand autn : Octets) where
 -- an image that was read has its length and a valid record
 pub held : (x : Octets) (r : Read) → r ≡ readAnswer 5 sets x → r .refusal ≡ 0 → (length x ≡ imageSize 5) × (validUsim 5 sets (r .usim) ≡ true)
 held x r e none =
-    let sound = reading-sound x (sym (ap (λ (y : Read). y .refusal) e) ∙ none) in
+    let sound = round-trips .sound x (sym (ap (λ (y : Read). y .refusal) e) ∙ none) in
     (sound .0, ap (λ (y : Read). validUsim 5 sets (y .usim)) e ∙ sound .1)
