@@ -15,7 +15,7 @@ use Rattle.aka.specs.Layout.{Vector, randSize, sqnSize, vectorSize, read
 use Rattle.aka.specs.Functions.{Keys, Functions, Family, Lengths}
 use Rattle.aka.specs.Sequence.{indices, limit, sqnOf}
 use Rattle.aka.specs.Usim.{seqIn, indIn, macRight}
-use Rattle.aka.specs.Auc.{Auc, AucAnswer, newAuc, Pair, unequal, equalAt, Outcome, given, kept, reset, refused, repeated, refusalOf, validAuc, countOf, equalPair, lentFor, lentAll, inRange, startOf, macSRight, seqMsIn, makeVector, seqAt, after, vectorFrom, batchFrom, unlessRepeated, unlessRefused, unlessPast, answerWith, orderOutcome, order, resyncOutcome, resync}
+use Rattle.aka.specs.Auc.{Auc, AucAnswer, newAuc, Pair, unequal, equalAt, Outcome, given, kept, reset, refused, repeated, refusalOf, firstOf, secondOf, validAuc, countOf, equalPair, lentFor, lentAll, inRange, startOf, macSRight, seqMsIn, makeVector, seqAt, after, vectorFrom, batchFrom, unlessRepeated, unlessRefused, unlessPast, answerWith, orderOutcome, order, resyncOutcome, resync}
 use Rattle.aka.specs.AucLaws.{PlaceOf, Lent, Asking, Sound, Refuses, Sends, Stays, LentAll, OrderLaws, ResyncLaws, AucPromise}
 use Rattle.aka.proofs.Tokens.{length-sqn, autn-amf, autn-mac, autn-seq, autn-ind}
 use Rattle.aka.proofs.Batches.{length-rand, length-batch, batch-vector}
@@ -117,6 +117,14 @@ module _ (w : ℕ) (family : Family) (auc : Auc) (count₀ : ℕ) (rands buffer 
 
 -- ---- what an outcome says
 
+-- only refusal 4 names a pair
+no-pair : (o : Outcome) → (refusalOf o ≡ 4 → ⊥) → (firstOf o ≡ 0) × (secondOf o ≡ 0)
+no-pair given h = (refl, refl)
+no-pair kept h = (refl, refl)
+no-pair reset h = (refl, refl)
+no-pair (refused k) h = (refl, refl)
+no-pair (repeated i j) h = absurd (h refl)
+
 module _ (w : ℕ) (family : Family) (auc : Auc) where
   -- refusals 1 to 4 of an answer that has `rest` behind them
   refuses : (count : ℕ) (rands buffer : Octets) (Named : Type 0) (lent : Bool) (rest : Outcome) (answer : AucAnswer)
@@ -124,10 +132,15 @@ module _ (w : ℕ) (family : Family) (auc : Auc) where
       → Refuses w family auc count rands buffer Named answer
   unfolding unlessRefused
   refuses count rands buffer Named lent rest answer is to from = record {
-    refusal1 = λ bad. is ∙ rw bad;
-    refusal2 = λ valid many. is ∙ rw (valid, lt-ltb 5 count many);
-    refusal3 = λ valid few bad. is ∙ rw (valid, le-ltb 5 count few, other bad);
-    refusal4 = λ i j valid few named pair. is ∙ rw (valid, le-ltb 5 count few, to named, pair);
+    refusal1 = one;
+    refusal2 = two;
+    refusal3 = three;
+    refusal4 = four;
+    number1 = λ bad. ap refusalOf (one bad);
+    number2 = λ valid many. ap refusalOf (two valid many);
+    number3 = λ valid few bad. ap refusalOf (three valid few bad);
+    pair4 = λ i j valid few named pair. let e = four i j valid few named pair in (ap refusalOf e, ap firstOf e, ap secondOf e);
+    pair0 = no-pair (answer .outcome);
   }
     where
       other : (Named → ⊥) → lent ≡ false
@@ -136,6 +149,18 @@ module _ (w : ℕ) (family : Family) (auc : Auc) where
           go : (b : Bool) → lent ≡ b → b ≡ false
           go true e = absurd (bad (from e))
           go false e = refl
+
+      one : validAuc w family auc ≡ false → answer .outcome ≡ refused 1
+      one bad = is ∙ rw bad
+
+      two : validAuc w family auc ≡ true → 5 < count → answer .outcome ≡ refused 2
+      two valid many = is ∙ rw (valid, lt-ltb 5 count many)
+
+      three : validAuc w family auc ≡ true → count ≤ 5 → (Named → ⊥) → answer .outcome ≡ refused 3
+      three valid few bad = is ∙ rw (valid, le-ltb 5 count few, other bad)
+
+      four : (i j : ℕ) → validAuc w family auc ≡ true → count ≤ 5 → Named → equalPair rands (countOf count) ≡ equalAt i j → answer .outcome ≡ repeated i j
+      four i j valid few named pair = is ∙ rw (valid, le-ltb 5 count few, to named, pair)
 
   -- no refusal: it is the outcome behind refusals 1 to 4
   behind : (valid many lent : Bool) (pair : Pair) (rest : Outcome)
@@ -231,11 +256,15 @@ module _ (w : ℕ) (family : Family) (auc : Auc) (count₀ : ℕ) (rands buffer 
   true-lent : Lent w family auc count₀ rands buffer → lentFor N rands buffer ≡ true
   true-lent l = lent-iff N rands buffer .1 (l .rands-size, l .buffer-size)
 
+  past-six : Asking w family auc count₀ rands buffer → Lent w family auc count₀ rands buffer → limit w < auc .seqhe + N → ordered .outcome ≡ refused 6
+  past-six a l past = order-past w family auc count₀ rands buffer (a .valid) (a .count-small) (l .rands-size) (l .buffer-size) (a .unequal-rands) past
+
   order-laws : OrderLaws w family auc count₀ rands buffer
   unfolding order orderOutcome
   order-laws = record {
     refuses = refuses w family auc count₀ rands buffer (Lent w family auc count₀ rands buffer) (lentFor N rands buffer) _ ordered order-is true-lent lent-true;
-    refusal6 = λ a l past. order-past w family auc count₀ rands buffer (a .valid) (a .count-small) (l .rands-size) (l .buffer-size) (a .unequal-rands) past;
+    refusal6 = past-six;
+    number6 = λ a l past. ap refusalOf (past-six a l past);
     not-refused = λ a l room. ap (λ (x : AucAnswer). x .outcome) (order-given w family auc count₀ rands buffer (a .valid) (a .count-small) (l .rands-size) (l .buffer-size) (a .unequal-rands) room);
     sends = order-sends;
     stays = stays-with w family auc (auc .seqhe) rands N buffer count₀ (orderOutcome w family auc count₀ rands buffer);
@@ -283,6 +312,9 @@ module _ (w : ℕ) (family : Family) (auc : Auc) (count₀ : ℕ) (rands buffer 
       behind-four : renewed .outcome ≡ cond (not range && not right) (refused 5) (unlessPast w family auc st N (cond range kept reset))
       unfolding resyncOutcome
       behind-four = resync-is ∙ not-refused w family auc count₀ N test rands _ (a .valid) (a .count-small) (true-test l) (a .unequal-rands)
+
+      forged-five : range ≡ false → right ≡ false → renewed .outcome ≡ refused 5
+      forged-five e wrong = behind-four ∙ rw (e, wrong)
 
     behind-five : (forged : Bool) (rest : Outcome) → refusalOf (cond forged (refused 5) rest) ≡ 0 → cond forged (refused 5) rest ≡ rest
     behind-five true rest e = absurd (omega arith)
@@ -333,9 +365,11 @@ module _ (w : ℕ) (family : Family) (auc : Auc) (count₀ : ℕ) (rands buffer 
       in-range = λ a l e room. behind-four a l ∙ rw (e, le-ltb (limit w) (auc .seqhe + N) room);
       in-range6 = λ a l e past. behind-four a l ∙ rw (e, lt-ltb (limit w) (auc .seqhe + N) past);
       kept-sends = kept-sends;
-      refusal5 = λ a l e wrong. behind-four a l ∙ rw (e, wrong);
+      refusal5 = forged-five;
+      number5 = λ a l e wrong. ap refusalOf (forged-five a l e wrong);
       out-of-range = λ a l e ok room. behind-four a l ∙ rw (e, ok, le-ltb (limit w) (ms + N) room);
       out-of-range6 = λ a l e ok past. behind-four a l ∙ rw (e, ok, lt-ltb (limit w) (ms + N) past);
+      number6 = λ e. ap refusalOf e;
       reset-sends = reset-sends;
       stays = stays-with w family auc st rands N buffer count₀ outcome₀;
       stays-valid = λ v. valid-with w family auc st rands N buffer v outcome₀ (λ e. sent-by-range e .1);

@@ -14,7 +14,7 @@ use Rattle.octets.proofs.Xor.{length-xor}
 use Rattle.aka.specs.Layout.{randSize, autnSize, autsSize, readAutn}
 use Rattle.aka.specs.Functions.{Keys, Functions, Family, Shaped, Lawful}
 use Rattle.aka.specs.Sequence.{indices, limit}
-use Rattle.aka.specs.Usim.{Usim, UsimAnswer, newUsim, highest, seqMs, Verdict, accepted, macFailure, syncFailure, refused, challenge, unchanged, verdictOn, judgement, answerWith, validUsim, allWithin, sized, sqnIn, seqIn, indIn, macRight, fresh}
+use Rattle.aka.specs.Usim.{Usim, UsimAnswer, newUsim, highest, seqMs, Verdict, accepted, macFailure, syncFailure, refused, refusalOf, challenge, unchanged, verdictOn, judgement, answerWith, validUsim, allWithin, sized, sqnIn, seqIn, indIn, macRight, fresh}
 use Rattle.aka.specs.UsimLaws.{Asked, Named, Fresh, OnePlace, UsimLaws, SameAnswer, UsimPromise}
 use Rattle.octets.proofs.Parts.{length-part}
 use Rattle.octets.proofs.Ranges.{below-part, below-xor}
@@ -60,6 +60,13 @@ module _ (w : ℕ) (family : Family) (usim : Usim) (rand autn : Octets) where
   unfolding judgement
   answered a number e = no-number (macRight F rand autn) test number (sym (known.judged w family usim rand autn (a .valid) (lengths a)) ∙ e)
 
+  -- a verdict that is no refusal has the number 0
+  none : (v : Verdict) → ((number : ℕ) → v ≡ refused number → ⊥) → refusalOf v ≡ 0
+  none accepted h = refl
+  none macFailure h = refl
+  none syncFailure h = refl
+  none (refused number) h = absurd (h number refl)
+
   not-new : (Fresh w family usim rand autn → ⊥) → test ≡ false
   not-new h = go test refl
     where
@@ -104,6 +111,9 @@ module _ (w : ℕ) (family : Family) (usim : Usim) (rand autn : Octets) where
     refusal1 = known.refused-1 w family usim rand autn;
     refusal3 = λ valid bad. known.refused-3 w family usim rand autn valid (not-sized bad);
     answered = answered;
+    number1 = λ bad. ap refusalOf (known.refused-1 w family usim rand autn bad);
+    number3 = λ valid bad. ap refusalOf (known.refused-3 w family usim rand autn valid (not-sized bad));
+    number0 = λ a. none (answer .verdict) (answered a);
     mac-wrong = λ a wrong. known.mac-wrong w family usim rand autn (a .valid) (lengths a) wrong;
     not-fresh = λ a right h. known.mac-right w family usim rand autn (a .valid) (lengths a) right ∙ rw (not-new h);
     fresh = λ a right h. known.mac-right w family usim rand autn (a .valid) (lengths a) right ∙ rw (known.fresh-iff (usim .places) (seqIn w F rand autn) (indIn w F rand autn) .1 h);

@@ -13,7 +13,7 @@ use Rattle.octets.specs.Octets.{Octets, zeros, part}
 use Rattle.octets.proofs.Parts.{false-unequal}
 use Rattle.octets.proofs.Strings.{equal-true}
 use Rattle.aka.specs.Layout.{readVector}
-use Rattle.aka.specs.Vlr.{Vlr, VlrAnswer, State, idle, asked, resyncing, isAsked, Outcome, done, cause, refused, refusalOf, mostHeld, placeSize, noPlaces, newVlr, allZero, validVlr, refusalOr, plain, added, taken, moved, request, resRight, judged, withAuts}
+use Rattle.aka.specs.Vlr.{Vlr, VlrAnswer, State, idle, asked, resyncing, isAsked, Outcome, done, passed, cause, refused, refusalOf, causeOf, mostHeld, placeSize, noPlaces, newVlr, allZero, validVlr, refusalOr, plain, added, taken, moved, request, resRight, judged, withAuts}
 use Rattle.aka.specs.Calls.{Call, reply, store, renew, ask, again, answer, sync, reject, timeout, abandon}
 use Rattle.aka.specs.VlrLaws.{placeAt, Shaped, Counted, Sized, NamedFor, Named, NoKeys, Nothing, Moved, Answers, Does, VlrLaws, VlrPromise}
 use Rattle.aka.proofs.Held.{all-zeros, length-zeros, zero-append, zero-drop, zero-each, each-zero, zero-from, part-before, length-written, written-before, written-behind, written-zero}
@@ -184,7 +184,7 @@ answers vlr res true e = record {
 }
 answers vlr res false e = record {
   right = λ same. absurd (false-unequal res (readVector (vlr .out) .xres) e same);
-  wrong = λ other. (refl, no-keys (cause 2) (moved idle vlr));
+  wrong = λ other. (refl, refl, no-keys (cause 2) (moved idle vlr));
   no-request = record { rand = refl; autn = refl };
   no-auts = refl;
   next = is-moved idle vlr;
@@ -233,7 +233,7 @@ does vlr (sync auts) s p = record {
   no-keys = record { ck = refl; ik = refl };
   next = is-moved resyncing vlr;
 }
-does vlr reject s p = record { outcome = refl; nothing = nothing (cause 1) _; next = is-moved idle vlr }
+does vlr reject s p = record { outcome = refl; number = refl; nothing = nothing (cause 1) _; next = is-moved idle vlr }
 does vlr timeout s p = record { outcome = refl; nothing = nothing done _; next = is-moved idle vlr }
 does vlr abandon s p = record { outcome = refl; nothing = nothing done _; next = is-moved idle vlr }
 
@@ -273,6 +273,13 @@ leaves-shaped vlr abandon s p = moved-shaped idle vlr s
 
 -- ---- the laws
 
+-- an outcome that is no cause has the cause 0
+no-cause : (o : Outcome) → ((n : ℕ) → o ≡ cause n → ⊥) → causeOf o ≡ 0
+no-cause done h = refl
+no-cause passed h = refl
+no-cause (cause n) h = absurd (h n refl)
+no-cause (refused n) h = refl
+
 module _ (vlr : Vlr) (call : Call) where
   abbrev r : VlrAnswer
   r = reply vlr call
@@ -306,7 +313,9 @@ module _ (vlr : Vlr) (call : Call) where
     refusal7 = λ l bad. is-refused 7 (omega arith)
         (rw (l .valid, true-counted call (l .counted), true-sized call (l .sized), refute (namedFor call (vlr .state)) (NamedFor call (vlr .state)) (named-true call (vlr .state)) bad));
     not-refused = λ n room. number-is vlr call ∙ behind n ∙ room-zero vlr call room;
+    number = λ n e. ap refusalOf e;
     stays = stays;
+    cause0 = no-cause (r .outcome);
     does = λ s e.
         let none = sym (number-is vlr call) ∙ e in
         subst (λ (a : VlrAnswer). Does vlr a call) (sym (taken-as vlr call none)) (does vlr call s (passes vlr call none));
@@ -317,9 +326,9 @@ module _ (vlr : Vlr) (call : Call) where
       behind : Named vlr call → refusal vlr call ≡ lastly vlr call
       behind n = rw (n .lent .valid, true-counted call (n .lent .counted), true-sized call (n .lent .sized), true-named call (vlr .state) (n .state))
 
-pub promise : VlrPromise
+pub vlr-promise : VlrPromise
 unfolding refusalOr
-promise = record {
+vlr-promise = record {
   laws = laws;
   refusal8 = λ vlr n e. is-refused vlr ask 8 (omega arith) (rw (n .lent .valid, true-named ask (vlr .state) (n .state), eq-eqb (vlr .held) 0 e));
   refusal9 = λ vlr count batch n past. is-refused vlr (store count batch) 9 (omega arith)

@@ -11,7 +11,7 @@ use Rattle.aka.specs.Layout.{Vector, randSize, amfSize, autsSize, vector
 use Rattle.aka.specs.Functions.{Keys, Functions, Family, Shaped, Lawful}
 use Rattle.aka.specs.Sequence.{D, indices, limit}
 use Rattle.aka.specs.Usim.{seqIn, indIn, macRight}
-use Rattle.aka.specs.Auc.{Auc, AucAnswer, newAuc, unequal, equalAt, given, kept, reset, refused, repeated, refusalOf, validAuc, countOf, equalPair, inRange, macSRight, seqMsIn, order, resync}
+use Rattle.aka.specs.Auc.{Auc, AucAnswer, newAuc, unequal, equalAt, given, kept, reset, refused, repeated, refusalOf, firstOf, secondOf, validAuc, countOf, equalPair, inRange, macSRight, seqMsIn, order, resync}
 
 -- 'the earliest pair of equal challenges (smallest first place, then second, from 0)'
 pub record Earliest (rands : Octets) (n i j : ℕ) : Type 0 where
@@ -66,6 +66,14 @@ module _ (w : ℕ) (family : Family) (auc : Auc) (count : ℕ) (rands buffer : O
     pub refusal3 : validAuc w family auc ≡ true → count ≤ 5 → (Named → ⊥) → answer .outcome ≡ refused 3
     pub refusal4 : (i j : ℕ) → validAuc w family auc ≡ true → count ≤ 5 → Named → equalPair rands n ≡ equalAt i j
         → answer .outcome ≡ repeated i j
+    -- in document 01's numbers; 'the answer names the earliest pair'
+    pub number1 : validAuc w family auc ≡ false → refusalOf (answer .outcome) ≡ 1
+    pub number2 : validAuc w family auc ≡ true → 5 < count → refusalOf (answer .outcome) ≡ 2
+    pub number3 : validAuc w family auc ≡ true → count ≤ 5 → (Named → ⊥) → refusalOf (answer .outcome) ≡ 3
+    pub pair4 : (i j : ℕ) → validAuc w family auc ≡ true → count ≤ 5 → Named → equalPair rands n ≡ equalAt i j
+        → (refusalOf (answer .outcome) ≡ 4) × (firstOf (answer .outcome) ≡ i) × (secondOf (answer .outcome) ≡ j)
+    -- 'is zero, save the pair in 4': of every answer, a batch too
+    pub pair0 : (refusalOf (answer .outcome) ≡ 4 → ⊥) → (firstOf (answer .outcome) ≡ 0) × (secondOf (answer .outcome) ≡ 0)
 
   -- the answer sends a batch whose SEQ are counted from `start`
   module _ (start : ℕ) (answer : AucAnswer) where
@@ -95,7 +103,7 @@ module _ (w : ℕ) (family : Family) (auc : Auc) (count : ℕ) (rands buffer : O
       pub same-keys : answer .auc .keys ≡ auc .keys
       pub same-amf : answer .auc .amf ≡ auc .amf
 
-  -- 'Record and lent buffers stay as they were; every other field of the answer .. is zero'
+  -- 'Record and lent buffers stay as they were; every other field of the answer .. is zero' (the pair: `Refuses`)
   pub record Stays (answer : AucAnswer) : Type 0 where
     pub none : answer .n ≡ 0
     pub same-auc : answer .auc ≡ auc
@@ -109,6 +117,7 @@ module _ (w : ℕ) (family : Family) (auc : Auc) (count : ℕ) (rands buffer : O
   pub record OrderLaws : Type 0 where
     pub refuses : Refuses Lent ordered
     pub refusal6 : Asking → Lent → limit w < auc .seqhe + n → ordered .outcome ≡ refused 6
+    pub number6 : Asking → Lent → limit w < auc .seqhe + n → refusalOf (ordered .outcome) ≡ 6
     -- otherwise a batch is given
     pub not-refused : Asking → Lent → auc .seqhe + n ≤ limit w → ordered .outcome ≡ given
     pub sends : Sound → ordered .outcome ≡ given → Sends (auc .seqhe) ordered
@@ -145,8 +154,10 @@ module _ (w : ℕ) (family : Family) (auc : Auc) (count : ℕ) (rands buffer : O
       pub kept-sends : Sound → renewed .outcome ≡ kept → Sends (auc .seqhe) renewed
       -- 'Otherwise MAC-S is verified and SEQ_HE first becomes SEQ_MS.'
       pub refusal5 : Asking → LentAll → range ≡ false → right ≡ false → renewed .outcome ≡ refused 5
+      pub number5 : Asking → LentAll → range ≡ false → right ≡ false → refusalOf (renewed .outcome) ≡ 5
       pub out-of-range : Asking → LentAll → range ≡ false → right ≡ true → ms + n ≤ limit w → renewed .outcome ≡ reset
       pub out-of-range6 : Asking → LentAll → range ≡ false → right ≡ true → limit w < ms + n → renewed .outcome ≡ refused 6
+      pub number6 : renewed .outcome ≡ refused 6 → refusalOf (renewed .outcome) ≡ 6
       pub reset-sends : Sound → renewed .outcome ≡ reset → Sends ms renewed
       pub stays : (refusalOf (renewed .outcome) ≡ 0 → ⊥) → Stays renewed
       -- a valid record is followed by a valid record

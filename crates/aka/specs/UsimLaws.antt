@@ -9,7 +9,7 @@ use Rattle.octets.specs.Octets.{Octets, Below, zeros}
 use Rattle.aka.specs.Layout.{randSize, autnSize, autsSize}
 use Rattle.aka.specs.Functions.{Keys, Functions, Family, Shaped, Lawful}
 use Rattle.aka.specs.Sequence.{D, indices, limit, seqOf, indOf}
-use Rattle.aka.specs.Usim.{Usim, UsimAnswer, newUsim, accepted, macFailure, syncFailure, refused, challenge, unchanged, validUsim, seqIn, indIn, macRight, seqMs, sqnMs}
+use Rattle.aka.specs.Usim.{Usim, UsimAnswer, newUsim, accepted, macFailure, syncFailure, refused, refusalOf, challenge, unchanged, validUsim, seqIn, indIn, macRight, seqMs, sqnMs}
 
 -- ---- one challenge, of any octets
 
@@ -52,6 +52,10 @@ module _ (w : ℕ) (family : Family) (usim : Usim) (rand autn : Octets) where
     pub refusal1 : validUsim w family usim ≡ false → answer .verdict ≡ refused 1
     pub refusal3 : validUsim w family usim ≡ true → (Named → ⊥) → answer .verdict ≡ refused 3
     pub answered : Asked → (number : ℕ) → answer .verdict ≡ refused number → ⊥
+    -- in document 01's numbers, 0 for none
+    pub number1 : validUsim w family usim ≡ false → refusalOf (answer .verdict) ≡ 1
+    pub number3 : validUsim w family usim ≡ true → (Named → ⊥) → refusalOf (answer .verdict) ≡ 3
+    pub number0 : Asked → refusalOf (answer .verdict) ≡ 0
     -- 'First MAC: if it differs, MAC failure.'
     pub mac-wrong : Asked → macRight F rand autn ≡ false → answer .verdict ≡ macFailure
     -- 'Then freshness. If not, synchronisation failure with AUTS. Otherwise accepted'

@@ -7,7 +7,7 @@ use mathlib.Core.Path.{_≡_}
 use lib.ListN.{length, getD}
 use Rattle.octets.specs.Octets.{Octets, zeros, part}
 use Rattle.aka.specs.Layout.{Vector, randSize, resSize, ckSize, ikSize, autnSize, autsSize, readVector}
-use Rattle.aka.specs.Vlr.{Vlr, VlrAnswer, State, idle, asked, resyncing, done, passed, cause, refused, refusalOf, mostHeld, placeSize, noVector, newVlr, validVlr, plain}
+use Rattle.aka.specs.Vlr.{Vlr, VlrAnswer, State, idle, asked, resyncing, done, passed, cause, refused, refusalOf, causeOf, mostHeld, placeSize, noVector, newVlr, validVlr, plain}
 use Rattle.aka.specs.Calls.{Call, reply, store, renew, ask, again, answer, sync, reject, timeout, abandon}
 
 -- the octets of place k, counted from 0
@@ -147,7 +147,7 @@ module _ (vlr : Vlr) (a : VlrAnswer) where
   pub record Answers (res : Octets) : Type 0 where
     pub right : res ≡ readVector (vlr .out) .xres
         → (a .outcome ≡ passed) × (a .ck ≡ readVector (vlr .out) .ck) × (a .ik ≡ readVector (vlr .out) .ik)
-    pub wrong : (res ≡ readVector (vlr .out) .xres → ⊥) → (a .outcome ≡ cause 2) × NoKeys a
+    pub wrong : (res ≡ readVector (vlr .out) .xres → ⊥) → (a .outcome ≡ cause 2) × (causeOf (a .outcome) ≡ 2) × NoKeys a
     pub no-request : NoRequest a
     pub no-auts : a .auts ≡ zeros autsSize
     pub next : Moved idle vlr (a .vlr)
@@ -164,6 +164,7 @@ module _ (vlr : Vlr) (a : VlrAnswer) where
   -- 'Reject: cause 1; Idle.'
   pub record Rejects : Type 0 where
     pub outcome : a .outcome ≡ cause 1
+    pub number : causeOf (a .outcome) ≡ 1
     pub nothing : Nothing a
     pub next : Moved idle vlr (a .vlr)
 
@@ -193,8 +194,11 @@ pub record VlrLaws (vlr : Vlr) (call : Call) : Type 0 where
   pub refusal3 : validVlr vlr ≡ true → Counted call → (Sized call → ⊥) → reply vlr call .outcome ≡ refused 3
   pub refusal7 : Lent vlr call → (NamedFor call (vlr .state) → ⊥) → reply vlr call .outcome ≡ refused 7
   pub not-refused : Named vlr call → Room vlr call → refusalOf (reply vlr call .outcome) ≡ 0
+  -- in document 01's numbers: 1, 2, 3, 7, 8 and 9
+  pub number : (n : ℕ) → reply vlr call .outcome ≡ refused n → refusalOf (reply vlr call .outcome) ≡ n
   -- 'Record and lent buffers stay as they were; every other field of the answer, number or byte, is zero'
   pub stays : (refusalOf (reply vlr call .outcome) ≡ 0 → ⊥) → reply vlr call ≡ plain (reply vlr call .outcome) vlr
+  pub cause0 : ((n : ℕ) → reply vlr call .outcome ≡ cause n → ⊥) → causeOf (reply vlr call .outcome) ≡ 0
   -- otherwise the call does what document 01 says of it
   pub does : Shaped vlr → refusalOf (reply vlr call .outcome) ≡ 0 → Does vlr (reply vlr call) call
   -- a valid record is followed by a valid record

@@ -14,7 +14,7 @@ use Rattle.aka.proofs.Verdicts.{valid-parts, answer-of, not-accepted-unchanged}
 use Rattle.usim.specs.Views.{sqnDue}
 use Rattle.usim_image.specs.Image.{Read, imageSize, readAnswer}
 use Rattle.usim_image.proofs.RoundTrips.{round-trips}
-use Rattle.interface_parts.specs.Answers.{answered}
+use Rattle.card_answers.specs.Answers.{answered}
 
 module _ (card : Usim) (rand autn : Octets) where
   abbrev due : UsimAnswer

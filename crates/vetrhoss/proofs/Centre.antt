@@ -9,7 +9,7 @@ use Rattle.aka.specs.Auc.{AucAnswer, validAuc}
 use Rattle.auc_image.specs.Image.{Read, image as aucImage, imageSize, readAnswer}
 use Rattle.auc_image.proofs.RoundTrips.{reading-sound}
 use Rattle.interface_parts.specs.Results.{outcomeResult}
-use Rattle.interface_parts.specs.Answers.{Batched, imageAfter, settled}
+use Rattle.centre_answers.specs.Answers.{Batched, imageAfter, settled}
 
 -- an image that was read has its length and a valid record
 pub held : (x : Octets) (r : Read) → r ≡ readAnswer 5 sets x → r .refusal ≡ 0 → (length x ≡ imageSize) × (validAuc 5 sets (r .auc) ≡ true)

@@ -16,7 +16,8 @@ use Rattle.usim.specs.Views.{sqnDue}
 use Rattle.usim_image.specs.Image as usim
 use Rattle.auc_image.specs.Image as auc
 use Rattle.interface_parts.specs.Results.{resultOf, unreadResult}
-use Rattle.interface_parts.specs.Answers.{Batched, settled, Challenged, untouched, answered}
+use Rattle.card_answers.specs.Answers.{Challenged, untouched, answered}
+use Rattle.centre_answers.specs.Answers.{Batched, settled}
 
 abbrev has : (size : ℕ) → Octets → Bool
 has size x = eqb (length x) size

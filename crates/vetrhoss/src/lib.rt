@@ -1,7 +1,7 @@
 // The C interface: the calls that programs in C and Rust link (include/vetrhoss.h). Records are lent as their packed images. A call returns one
 // number: the low 8 bits are 0, a refusal's number or a failure's cause, and the rest is the value that goes with it.
 ghost use mathlib.Core.Path.{_≡_};
-ghost use Rattle.interface_parts.specs.Answers.{untouched};
+ghost use Rattle.card_answers.specs.Answers.{untouched};
 ghost use Rattle.vetrhoss.specs.Interface.{filledOf, opcCall, newUsimCall, newAucCall, challengeCall, orderCall, resyncCall, vectorAtCall};
 
 // OPc of K and OP.
@@ -99,7 +99,7 @@ pub extern "C" fn vetrhoss_challenge(
         return 3;
     }
     let a = usim::challenge(usim, rand, autn);
-    interface_parts::answer(a, image, res, ck, ik, auts)
+    card_answers::answer(a, image, res, ck, ik, auts)
 }
 
 // The centre's batch; the image changes where it is given.
@@ -118,7 +118,7 @@ pub extern "C" fn vetrhoss_order(
         return interface_parts::unread(held.refusal, count);
     }
     let a = auc::order(auc, count, rands, batch);
-    interface_parts::settle(a, image)
+    centre_answers::settle(a, image)
 }
 
 // The centre's batch after a synchronisation failure; the image changes where it is given.
@@ -139,7 +139,7 @@ pub extern "C" fn vetrhoss_resynchronise(
         return interface_parts::unread(held.refusal, count);
     }
     let a = auc::resynchronise(auc, count, rand, auts, rands, batch);
-    interface_parts::settle(a, image)
+    centre_answers::settle(a, image)
 }
 
 // Where the vector at place k begins in a batch.

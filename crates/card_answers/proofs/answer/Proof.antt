@@ -6,10 +6,10 @@ use Rattle.octets.specs.Octets.{Octets}
 use Rattle.usim.specs.declared.Verdict.{Verdict}
 use Rattle.usim.specs.declared.Verdict.the-variants.{Accepted}
 use Rattle.usim.specs.Views.{sqnGiven}
-use Rattle.interface_parts.specs.Answers.{untouched}
+use Rattle.card_answers.specs.Answers.{untouched}
 use borrow.Author.Needs.{needs}
-use Rattle.interface_parts.proofs.answer.Statement.{statement}
-use Rattle.interface_parts.proofs.answer.Tie as tie
+use Rattle.card_answers.proofs.answer.Statement.{statement}
+use Rattle.card_answers.proofs.answer.Tie as tie
 
 alike : (r r′ : ℕ) {i i′ x x′ c c′ k k′ s s′ : Octets} → r ≡ r′ → i ≡ i′ → (x ≡ x′) × (c ≡ c′) × (k ≡ k′) × (s ≡ s′)
     → untouched r i x c k s ≡ untouched r′ i′ x′ c′ k′ s′

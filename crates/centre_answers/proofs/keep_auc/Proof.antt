@@ -4,8 +4,8 @@ use borrow.Author.Tests.{eq-eqb}
 use Rattle.image_parts.specs.Written.{Written}
 use Rattle.auc_image.specs.Image.{writeAnswer}
 use borrow.Author.Needs.{needs}
-use Rattle.interface_parts.proofs.keep_auc.Statement.{statement}
-use Rattle.interface_parts.proofs.keep_auc.Tie as tie
+use Rattle.centre_answers.proofs.keep_auc.Statement.{statement}
+use Rattle.centre_answers.proofs.keep_auc.Tie as tie
 
 returns : tie.Need-returns
 unfolding writeAnswer

@@ -5,11 +5,11 @@ use native.Mathlib.Omega.{arith}
 use Rattle.octets.specs.Octets.{Octets}
 use Rattle.auc_record.specs.declared.Outcome.{Outcome}
 use Rattle.auc_record.specs.Views.{outcomeOf}
 use Rattle.interface_parts.specs.Results.{outcomeResult}
-use Rattle.interface_parts.specs.Answers.{imageAfter}
+use Rattle.centre_answers.specs.Answers.{imageAfter}
 use borrow.Author.Needs.{needs}
-use Rattle.interface_parts.proofs.settle.Statement.{statement}
-use Rattle.interface_parts.proofs.settle.Tie as tie
+use Rattle.centre_answers.proofs.settle.Statement.{statement}
+use Rattle.centre_answers.proofs.settle.Tie as tie
 
 Told : (x : Outcome) (r : ℕ) (exit entry next : Octets) → Type 0
 Told x r exit entry next = (r ≡ outcomeResult (outcomeOf x)) × (exit ≡ imageAfter (outcomeOf x) entry next)

@@ -1,7 +1,7 @@
 -- `give` fills the four buffers. Assumes nothing.
 use borrow.Author.Needs.{needs}
-use Rattle.interface_parts.proofs.give.Statement.{statement}
-use Rattle.interface_parts.proofs.give.Tie as tie
+use Rattle.card_answers.proofs.give.Statement.{statement}
+use Rattle.card_answers.proofs.give.Tie as tie
 
 returns : tie.Need-returns
 returns c =

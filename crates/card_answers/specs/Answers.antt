@@ -1,38 +1,13 @@
--- What a call of the C interface leaves in the octets lent to it, once the record was read from its image. Assumes nothing: these are definitions.
+-- What a challenge of the C interface returns, and what image, RES, CK, IK and AUTS hold at the end, once the record was read from its image.
+-- Assumes nothing: these are definitions.
 use Prim.Native.Nat.{ℕ}
 use mathlib.Core.Path.{_≡_}
 use lib.ListN.{length}
 use Rattle.octets.specs.Octets.{Octets}
 use Rattle.aka.specs.Layout.{resSize, ckSize, ikSize, autsSize}
 use Rattle.aka.specs.Usim as card
-use Rattle.aka.specs.Auc as centre
 use Rattle.usim_image.specs.Image as usim
-use Rattle.auc_image.specs.Image as auc
-use Rattle.interface_parts.specs.Results.{verdictResult, outcomeResult}
-
--- ---- the centre: what it returns, and what image and batch hold at the end
-
-pub record Batched : Type 0 where
-  pub result : ℕ
-  pub image : Octets
-  pub batch : Octets
-
--- the image becomes that of the next record, and with a refusal stays
-abbrev pub imageAfter : centre.Outcome → (image next : Octets) → Octets
-imageAfter centre.given image next = next
-imageAfter centre.kept image next = next
-imageAfter centre.reset image next = next
-imageAfter (centre.refused number) image next = image
-imageAfter (centre.repeated i j) image next = image
-
-abbrev pub settled : (image : Octets) → centre.AucAnswer → Batched
-settled image a = record {
-  result = outcomeResult (a .outcome);
-  image = imageAfter (a .outcome) image (auc.image 5 (a .auc));
-  batch = a .batch;
-}
-
--- ---- the card: what it returns, and what image, RES, CK, IK and AUTS hold at the end
+use Rattle.interface_parts.specs.Results.{verdictResult}
 
 pub record Challenged : Type 0 where
   pub result : ℕ

@@ -4,8 +4,8 @@ use borrow.Author.Tests.{eq-eqb}
 use Rattle.image_parts.specs.Written.{Written}
 use Rattle.usim_image.specs.Image.{writeAnswer}
 use borrow.Author.Needs.{needs}
-use Rattle.interface_parts.proofs.keep_usim.Statement.{statement}
-use Rattle.interface_parts.proofs.keep_usim.Tie as tie
+use Rattle.card_answers.proofs.keep_usim.Statement.{statement}
+use Rattle.card_answers.proofs.keep_usim.Tie as tie
 
 returns : tie.Need-returns
 unfolding writeAnswer
