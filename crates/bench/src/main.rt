@@ -30,7 +30,7 @@ fn answer(bench: Bench, line: &[u8], out: &mut [u8], used: usize) -> Answered
 
 // Answers every line of the input. A proved loop has to end, so this one counts its turns down, from a number that no run uses up.
 fn answer_all(piece: &mut [u8], line: &mut [u8], out: &mut [u8]) {
-    let mut bench = bench_core::new();
+    let mut bench = bench_records::new();
     let mut input = console::start();
     let mut turns = u64::MAX;
     while turns > 0 {

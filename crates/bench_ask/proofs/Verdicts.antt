@@ -14,7 +14,7 @@ use Rattle.usim.specs.Views.{verdictOf, sqnGiven, sqnDue}
 use Rattle.usim.proofs.Verdict.{the-type}
 use Rattle.bench_replies.specs.Replies.{mac}
 use Rattle.bench_state.specs.Bench.{Bench, Acted, askAnswer, cardAnswer, judged, asked, outOfStep, onVerdict}
-use Rattle.bench_ask.specs.Steps.{sqnAsked, Failed, OnAuts, OnPass}
+use Rattle.bench_outcomes.specs.Steps.{sqnAsked, Failed, OnAuts, OnPass}
 
 -- ---- the verdict
 

@@ -1,51 +1,16 @@
--- The bench from its start, and one line with its answer in a lent buffer. Assumes nothing: these are definitions.
+-- One line with its answer in a lent buffer. Assumes nothing: these are definitions.
 use Prim.Native.Nat.{ℕ, _*_}
-use mathlib.Core.Bool.{Bool, false, cond}
+use mathlib.Core.Bool.{cond}
 use lib.Dec.{ltb}
 use lib.ListN.{length}
-use Rattle.octets.specs.Octets.{Octets, zeros, part}
-use Rattle.aka.specs.Functions.{Keys}
-use Rattle.aka.specs.Layout.{randSize, autsSize, keySize, amfSize}
-use Rattle.aka.specs.Usim as card
-use Rattle.aka.specs.Auc as centre
-use Rattle.aka.specs.Vlr as node
+use Rattle.octets.specs.Octets.{Octets, part}
+use Rattle.aka.specs.Layout.{randSize}
 use Rattle.bench_replies.specs.Replies.{badLine, room, written}
 use Rattle.bench_state.specs.Bench.{Bench, Acted, stays, resync, step}
-
--- ---- records on the way
-
--- everything new, with keys and AMF
-abbrev pub keyedBy : (started : Bool) → Keys → (amf : Octets) → Bench
-keyedBy started keys amf = record {
-  started = started;
-  usim = card.newUsim 5 keys;
-  auc = centre.newAuc keys amf;
-  vlr = node.newVlr;
-  heard = false;
-  rand = zeros randSize;
-  auts = zeros autsSize;
-}
-
--- another SEQ_HE and next index
-abbrev pub putIn : Bench → (seqhe next : ℕ) → Bench
-putIn bench seqhe next = record {
-  started = bench .started;
-  usim = bench .usim;
-  auc = record { keys = bench .auc .keys; amf = bench .auc .amf; seqhe = seqhe; next = next };
-  vlr = bench .vlr;
-  heard = bench .heard;
-  rand = bench .rand;
-  auts = bench .auts;
-}
 
 -- a resync, once there was an AUTS
 abbrev pub heardOnly : Bench → (count : ℕ) (rands : Octets) → Acted
 heardOnly bench count rands = cond (bench .heard) (resync bench count (part 0 (randSize * count) rands)) (stays bench badLine)
-
--- ---- the bench before the first line: no key was taken
-
-abbrev pub newOf : Bench
-newOf = keyedBy false (record { set = 0; k = zeros keySize; opc = zeros keySize }) (zeros amfSize)
 
 -- ---- a line and its answer
 

@@ -1,3 +1,2 @@
-pub mod Forms
-pub mod Batches
-pub mod Choices
+pub mod HexFields
+pub mod Rands

@@ -2,15 +2,12 @@
 use Prim.Native.Nat.{ℕ, _+_, _-_, _≤_}
 use mathlib.Core.List.{List, _++_, append-assoc, append-nil}
 use mathlib.Core.Path.{_≡_, sym, ap, _∙_}
-use native.Mathlib.Nat.{add-assoc, zero-add}
+use native.Mathlib.Nat.{add-assoc}
 use native.Mathlib.Omega.{arith}
-use borrow.Author.Tests.{le-ltb}
 use borrow.Rule.Slice.PartMut.{putMid, post-is}
 use lib.ListN.{length, take, drop, length-append, length-drop}
 use lib.Seq.{take-all, take-at, take-length, drop-length, drop-drop, drop-append-add, length-take-le}
-use Rattle.bench_replies.specs.Replies.{Reply, textOf, room, written}
 use Rattle.bench_replies.specs.Placing.{Placed}
-use Rattle.bench_replies.specs.Views.{writtenOf}
 
 -- a copy from a place on
 pub copied : (buffer text : List ℕ) (at : ℕ) → at + length text ≤ length buffer
@@ -47,10 +44,3 @@ placed-both {buffer} {mid} {after} {a} {b} {at} {n} {m} h p q =
       place = omega (arith, p .place, q .place, length-append a b);
       bytes = q .bytes ∙ rw (front, back, length-append a b) (simp append-assoc);
     }
-
--- a text at the front
-pub placed-front : (reply : Reply) {buffer after : List ℕ} {next : ℕ} → room ≤ length buffer → Placed buffer 0 (textOf reply) after next
-    → writtenOf next after ≡ written reply buffer
-unfolding written
-placed-front reply {buffer} h p =
-    rw (le-ltb (length buffer) room h, p .place, p .bytes, zero-add (length (textOf reply)))

@@ -41,7 +41,7 @@ returns-2 c =
     (c .passed .ensures (record {
       vlr-is = ap (λ (v : VlrAnswer). v .vlr) (sym (start .pre));
       answer-is = sym (answer-is at);
-      sqn-is = sqn-is bench (start .pre) (found .verdict .given .1) (at .challenge .ensures .1 .0);
+      sqn-is = sqn-is bench (start .pre) (found .verdict .given .1) (at .challenge .ensures .1);
     }))
     ∙ ap (λ (a : UsimAnswer). onVerdict bench (a .verdict)) (answer-is at)
 

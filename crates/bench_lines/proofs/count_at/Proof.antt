@@ -1,7 +1,7 @@
 -- `count_at` is `countAt`: each way through it is one of its cases. Assumes nothing.
 use native.Mathlib.Omega.{arith}
 use borrow.Author.Needs.{needs}
-use Rattle.bench_lines.proofs.Batches.{count-past, count-low, count-high, count-is}
+use Rattle.bench_lines.proofs.Rands.{count-past, count-low, count-high, count-is}
 use Rattle.bench_lines.proofs.count_at.Statement.{statement}
 use Rattle.bench_lines.proofs.count_at.Tie as tie
 

@@ -4,7 +4,7 @@ use mathlib.Core.Bool.{false≢true}
 use mathlib.Core.Path.{_≡_, ap}
 use native.Mathlib.Omega.{arith}
 use lib.ListN.{length, drop, take}
-use Rattle.bench_lines.proofs.Forms.{no-space, field-read}
+use Rattle.bench_lines.proofs.HexFields.{no-space, field-read}
 use borrow.Author.Needs.{needs}
 use Rattle.bench_lines.proofs.hex_field.Statement.{statement}
 use Rattle.bench_lines.proofs.hex_field.Tie as tie

@@ -8,7 +8,7 @@ use borrow.Author.Tests.{not-true, not-false}
 use borrow.Rule.Slice.PartMut.{same-len-mid}
 use lib.ListN.{length, take, drop, length-take, length-drop}
 use Rattle.bench_lines.specs.Commands.{hexField, octetsIn, randFields, randOctets}
-use Rattle.bench_lines.proofs.Batches.{missing, one-more, put-rand}
+use Rattle.bench_lines.proofs.Rands.{missing, one-more, put-rand}
 use borrow.Author.Needs.{needs}
 use Rattle.bench_lines.proofs.read_rands.Statement.{statement}
 use Rattle.bench_lines.proofs.read_rands.Tie as tie

@@ -1,0 +1,49 @@
+// Writes the bench's answer to a line.
+use bench_replies::Reply;
+ghost use mathlib.Core.Path.{_≡_};
+ghost use Prim.Native.Nat.{_≤_};
+ghost use lib.ListN.{length};
+ghost use Rattle.bench_replies.specs.Replies.{room, textOf, written};
+ghost use Rattle.bench_replies.specs.Placing.{Placed};
+ghost use Rattle.bench_replies.specs.Views.{replyOf, writtenOf};
+
+// A buffer of so many bytes has room for every text.
+pub const ROOM: usize = 96;
+
+// Puts the text at the front of a buffer with room for it.
+fn put_reply(reply: Reply, out: &mut [u8]) -> usize
+    requires { ⌜ room ≤ length (now out) ⌝ }
+    ensures { λ r. ⌜ Placed (now (out .entry)) 0 (textOf (replyOf reply)) (now (out .exit)) r ⌝ }
+{
+    match reply {
+        Reply::KeyOk => bench_replies::put(out, 0, b"key ok\n"),
+        Reply::PutOk => bench_replies::put(out, 0, b"put ok\n"),
+        Reply::BadLine => bench_replies::put(out, 0, b"bad line\n"),
+        Reply::Stored(count, held) => bench_texts::put_batch(out, b"stored ", count, held),
+        Reply::Kept(count, held) => bench_texts::put_batch(out, b"kept ", count, held),
+        Reply::Reset(count, held) => bench_texts::put_batch(out, b"reset ", count, held),
+        Reply::Pass(sqn, left) => bench_texts::put_pass(out, sqn, left),
+        Reply::Sync => bench_replies::put(out, 0, b"sync\n"),
+        Reply::Mac => bench_replies::put(out, 0, b"mac\n"),
+        Reply::Cause(number) => bench_texts::put_numbered(out, b"cause ", number),
+        Reply::Refused(number) => bench_texts::put_numbered(out, b"refused ", number),
+        Reply::Shown(seqhe, next, seqms, index) => bench_texts::put_records(
+            out,
+            seqhe,
+            next,
+            seqms,
+            index,
+        ),
+    }
+}
+
+// Writes the text of `reply` to the front of `out`, and returns its length. Where `out` has less than `ROOM` bytes, it stays as it
+// was, and 0 is returned.
+pub fn write(reply: Reply, out: &mut [u8]) -> usize
+    ensures { λ r. ⌜ writtenOf r (now (out .exit)) ≡ written (replyOf reply) (now (out .entry)) ⌝ }
+{
+    if out.len() < ROOM {
+        return 0;
+    }
+    put_reply(reply, out)
+}
