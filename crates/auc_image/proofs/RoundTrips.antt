@@ -20,8 +20,9 @@ use Rattle.aka.proofs.Outcomes.{valid-iff}
 use Rattle.image_parts.specs.Head.{seqBits, head, knownHead}
 use Rattle.image_parts.proofs.Heads.{few-sets, length-head, read-head, known-head, known-set, write-head}
 use Rattle.image_parts.proofs.Tests.{unrefused}
-use Rattle.auc_image.specs.Image.{imageSize, bits, image, readImage, Read, writeAnswer, readAnswer}
-use Rattle.auc_image.proofs.Bits.{read-first, read-second, first-fits, second-fits, write-bits}
+use Rattle.auc_packing.specs.Image.{imageSize, bits, image, readImage}
+use Rattle.auc_image.specs.Image.{Read, writeAnswer, readAnswer}
+use Rattle.auc_packing.proofs.Bits.{read-first, read-second, first-fits, second-fits, write-bits}
 
 -- K, OPc and AMF have their length (the code's types see to it)
 pub record Sized (auc : Auc) : Type 0 where

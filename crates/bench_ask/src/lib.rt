@@ -9,7 +9,7 @@ use vlr::Vlr;
 ghost use mathlib.Core.Path.{_≡_};
 ghost use Rattle.aka.specs.Usim.{accepted as acceptedOf};
 ghost use Rattle.aka.specs.Vlr.{refusalOf};
-ghost use Rattle.usim.specs.Views.{usimOf, verdictOf, answerOf as cardAnswerOf};
+ghost use Rattle.usim_record.specs.Views.{usimOf, verdictOf, answerOf as cardAnswerOf};
 ghost use Rattle.vlr_record.specs.Views.{answerOf, outcomeOf, vlrOf};
 ghost use Rattle.bench_replies.specs.Views.{replyOf};
 ghost use Rattle.bench_state.specs.Bench.{Bench as BenchOf, askAnswer, cardAnswer, unlessRefused, judged as judgedOf, asked as askedOf, outOfStep, onVerdict, ask as askOf};

@@ -2,7 +2,7 @@
 use mathlib.Core.Path.{_≡_, sym, ap, _∙_}
 use Rattle.aka.specs.Usim.{UsimAnswer}
 use Rattle.aka.specs.Vlr.{VlrAnswer}
-use Rattle.usim.specs.Views.{answerOf}
+use Rattle.usim_record.specs.Views.{answerOf}
 use Rattle.bench_state.specs.Bench.{cardAnswer, onVerdict}
 use Rattle.bench_state.specs.Views.{benchOf}
 use Rattle.bench_ask.proofs.Verdicts.{other, card-is, sqn-is, on}
