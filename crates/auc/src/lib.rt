@@ -4,58 +4,17 @@ pub use auc_record::Auc;
 pub use auc_record::Outcome;
 pub use auc_record::is_valid;
 pub use auc_record::new;
-use batches::Series;
-use functions::Challenge;
-ghost use Prim.Native.Nat.{_+_, _*_, _^_, _≤_, _<_};
+use auc_steps::renew;
+use auc_steps::send;
+ghost use Prim.Native.Nat.{_*_, _≤_, _<_};
 ghost use mathlib.Core.Path.{_≡_};
 ghost use lib.ListN.{length};
-ghost use Rattle.octets.specs.Octets.{Octets};
-ghost use Rattle.aes_tables.specs.RoundTable.{IsRoundTable};
-ghost use Rattle.functions.specs.Challenge.{keysOf, IsSchedule, Started};
 ghost use Rattle.functions.specs.Sets.{sets};
 ghost use Rattle.aka.specs.Layout.{handedBack};
 ghost use Rattle.aka.specs.Sequence.{limit};
 ghost use Rattle.aka.specs.Auc.{order as orderOf, resync};
-ghost use Rattle.auc_record.specs.Views.{aucOf, outcomeOf, answerOf};
-ghost use Rattle.auc_record.specs.Steps.{sentFrom, renewed};
-
-// The largest SEQ.
-const LIMIT: u64 = 8796093022207;
-
-// Sends a batch of n whose SEQ follow `start`, if the last is within the limit.
-fn send(
-    t: &[u32; 256],
-    w: &[u32; 44],
-    outcome: Outcome,
-    auc: Auc,
-    start: u64,
-    n: u8,
-    rands: &[u8],
-    batch: &mut [u8],
-) -> Answer
-    requires made { ⌜ IsRoundTable (now t) × IsSchedule (keysOf (auc .keys)) (now w) ⌝ }
-    requires room { ⌜ (n ≤ 5) × (start < 2 ^ 59) × (auc .next < 32) ⌝ }
-    requires lent { ⌜ (length (now rands) ≡ 16 * n) × (length (now batch) ≡ 72 * n) ⌝ }
-    ensures { λ r. ⌜ answerOf r (now (batch .exit)) ≡ sentFrom (aucOf auc) start n (now (rands .entry)) (now (batch .entry)) (outcomeOf outcome) ⌝ }
-{
-    if LIMIT < start + (n as u64) {
-        return auc_record::refused(Outcome::Refused(6), auc);
-    }
-    let keys = auc.keys;
-    let amf = auc.amf;
-    let s = Series {
-        keys,
-        amf,
-        start,
-        next: auc.next,
-    };
-    batches::fill(t, w, s, rands, n, batch);
-    Answer {
-        outcome,
-        n,
-        auc: auc_record::after(auc, start, n),
-    }
-}
+ghost use Rattle.auc_record.specs.Views.{aucOf, answerOf};
+ghost use Rattle.auc_record.specs.Steps.{renewed};
 
 // The AuC's whole answer to an order.
 pub fn order(auc: Auc, count: u64, rands: &[u8], batch: &mut [u8]) -> Answer
@@ -85,33 +44,6 @@ pub fn vector_at<'a>(batch: &'a [u8], k: u64) -> &'a [u8]
     ensures { λ r. ⌜ now r ≡ handedBack (now (batch .entry)) k ⌝ }
 {
     lent_parts::vector_at(batch, k)
-}
-
-// In range the batch is sent as usual, and MAC-S is not looked at. Otherwise MAC-S is verified, and SEQ_HE first becomes SEQ_MS.
-fn renew(
-    t: &[u32; 256],
-    w: &[u32; 44],
-    c: Challenge,
-    auts: [u8; 14],
-    auc: Auc,
-    n: u8,
-    rands: &[u8],
-    batch: &mut [u8],
-) -> Answer
-    requires made { ⌜ IsRoundTable (now t) × IsSchedule (keysOf (auc .keys)) (now w) ⌝ }
-    requires room { ⌜ (n ≤ 5) × (auc .seqhe ≤ limit 5) × (auc .next < 32) ⌝ }
-    requires lent { ⌜ (length (now rands) ≡ 16 * n) × (length (now batch) ≡ 72 * n) ⌝ }
-    ensures { λ r. ⌜ ((rand : Octets) → Started (keysOf (auc .keys)) rand (now (w .entry)) c → answerOf r (now (batch .exit)) ≡ renewed (aucOf auc) n (now (rands .entry)) (now (batch .entry)) rand auts) ⌝ }
-{
-    let sqn = auts::sqn_ms(t, w, c, auts);
-    let ms = tokens::sqn_number(sqn) / 32;
-    if auts::in_range(auc.seqhe, ms, n) {
-        return send(t, w, Outcome::Kept, auc, auc.seqhe, n, rands, batch);
-    }
-    if !auts::mac_s_right(t, w, c, sqn, auts) {
-        return auc_record::refused(Outcome::Refused(5), auc);
-    }
-    send(t, w, Outcome::Reset, auc, ms, n, rands, batch)
 }
 
 // The answer to RAND and AUTS once refusals 1 to 4 do not apply. RAND is taken up once, for SQN_MS and MAC-S.

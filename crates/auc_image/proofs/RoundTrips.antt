@@ -20,13 +20,10 @@ use Rattle.aka.proofs.Outcomes.{valid-iff}
 use Rattle.image_parts.specs.Head.{seqBits, head, knownHead}
 use Rattle.image_parts.proofs.Heads.{few-sets, length-head, read-head, known-head, known-set, write-head}
 use Rattle.image_parts.proofs.Tests.{unrefused}
-use Rattle.auc_image.specs.Image.{imageSize, bits, image, readImage, Read, writeAnswer, readAnswer}
-use Rattle.auc_image.proofs.Bits.{read-first, read-second, first-fits, second-fits, write-bits}
-
--- K, OPc and AMF have their length (the code's types see to it)
-pub record Sized (auc : Auc) : Type 0 where
-  pub keys : Shaped (auc .keys)
-  pub amf : length (auc .amf) ≡ amfSize
+use Rattle.auc_packing.specs.Image.{imageSize, bits, image, readImage}
+use Rattle.auc_image.specs.RoundTrips.{Sized, RoundTrips}
+use Rattle.auc_image.specs.Image.{Read, writeAnswer, readAnswer}
+use Rattle.auc_packing.proofs.Bits.{read-first, read-second, first-fits, second-fits, write-bits}
 
 -- ---- the image alone, for any index width that leaves room for SEQ_HE
 
@@ -125,17 +122,10 @@ module _ (w : ℕ) (family : Family) (filled : seqBits w + w ≡ 48) (few : (set
 
 -- ---- document 01's index width and function sets
 
--- 41 octets, SEQ_HE in 43 bits
-pub sizes : (imageSize ≡ 41) × (seqBits 5 ≡ 43)
-sizes = (refl, refl)
-
-pub reading-written : (auc : Auc) (buffer : Octets) → Sized auc → validAuc 5 sets auc ≡ true → length buffer ≡ imageSize
-    → readAnswer 5 sets (writeAnswer 5 sets auc buffer .image) ≡ record { refusal = 0; auc = auc }
-reading-written = read-written 5 sets refl few-sets
-
-pub writing-read : (x buffer : Octets) → Below 256 x → readAnswer 5 sets x .refusal ≡ 0 → length buffer ≡ imageSize
-    → writeAnswer 5 sets (readAnswer 5 sets x .auc) buffer ≡ record { refusal = 0; image = x }
-writing-read = written-read 5 sets refl few-sets
-
-pub reading-sound : (x : Octets) → readAnswer 5 sets x .refusal ≡ 0 → (length x ≡ imageSize) × (validAuc 5 sets (readAnswer 5 sets x .auc) ≡ true)
-reading-sound = sound 5 sets refl few-sets
+pub round-trips : RoundTrips
+round-trips = record {
+  size = refl;
+  reading-written = read-written 5 sets refl few-sets;
+  writing-read = written-read 5 sets refl few-sets;
+  sound = sound 5 sets refl few-sets;
+}

@@ -1,51 +1,18 @@
--- The packed image of an AuC's record (document 01: centre), most significant bit first: how it lies in octets, and what writing and
--- reading it answer. Document 01, 'Numbers and records'. `w` is the width of the index in bits: 5 in document 01. Assumes nothing: these
--- are definitions.
-use Prim.Native.Nat.{ℕ, _+_, _*_}
+-- The packed image of an AuC's record (document 01: centre): what writing and reading it answer, with document 01's refusal number, 0 for
+-- none. How it lies in octets is handed on from `auc_packing`. `w` is the width of the index in bits: 5 in document 01. Assumes nothing:
+-- these are definitions.
+use Prim.Native.Nat.{ℕ}
 use mathlib.Core.Bool.{not, cond}
-use mathlib.Core.List.{List, _++_}
 use lib.Dec.{eqb}
 use lib.ListN.{length}
-use Rattle.octets.specs.Octets.{Octets, zeros, part, digits, number, encode, decode}
-use Rattle.aka.specs.Layout.{amfSize, sqnSize}
+use Rattle.octets.specs.Octets.{Octets, zeros}
+use Rattle.aka.specs.Layout.{amfSize}
 use Rattle.aka.specs.Functions.{Family}
 use Rattle.aka.specs.Auc.{Auc, newAuc, validAuc}
-use Rattle.image_parts.specs.Head.{headSize, seqBits, head, keysIn, knownHead, noKeys}
+use Rattle.image_parts.specs.Head.{knownHead, noKeys}
 use Rattle.image_parts.specs.Written.{Written}
-
--- ---- edition, set, K and OPc, then AMF, then SEQ_HE and the next index
-
-abbrev pub amfAt : ℕ
-amfAt = headSize
-
-abbrev pub sqnAt : ℕ
-sqnAt = amfAt + amfSize
-
-abbrev pub imageSize : ℕ
-imageSize = sqnAt + sqnSize
-
--- the bits of the last octets
-abbrev pub bitsIn : Octets → List ℕ
-bitsIn x = digits 2 (8 * sqnSize) (decode (part sqnAt sqnSize x))
-
-module _ (w : ℕ) where
-  -- SEQ_HE in 48 - w bits, then the next index in w bits
-  abbrev pub bits : Auc → List ℕ
-  bits auc = digits 2 (seqBits w) (auc .seqhe) ++ digits 2 w (auc .next)
-
-  unfoldable pub image : Auc → Octets
-  image auc = head (auc .keys) ++ (auc .amf ++ encode sqnSize (number 2 (bits auc)))
-
-  -- the record in an image
-  unfoldable pub readImage : Octets → Auc
-  readImage x = record {
-    keys = keysIn x;
-    amf = part amfAt amfSize x;
-    seqhe = number 2 (part 0 (seqBits w) (bitsIn x));
-    next = number 2 (part (seqBits w) w (bitsIn x));
-  }
-
--- ---- the answers, with document 01's refusal number, 0 for none
+pub use Rattle.auc_packing.specs.Image.{imageSize}
+unfoldable pub use Rattle.auc_packing.specs.Image.{image, readImage}
 
 pub record Read : Type 0 where
   pub refusal : ℕ

@@ -1,72 +1,22 @@
-// The packed image of an AuC's record (document 01: centre), most significant bit first: edition and set in 4 bits each, K, OPc, AMF,
-// SEQ_HE in 43 bits and the next index in 5.
+// The packed image of an AuC's record (document 01: centre), written and read. How it lies in octets: `auc_packing`.
+use auc_packing::SQN;
+use auc_packing::fill;
+use auc_packing::unpack;
 use auc_record::Auc;
-ghost use mathlib.Core.Bool.{true};
-ghost use mathlib.Core.List.{_++_};
 ghost use mathlib.Core.Path.{_≡_};
-ghost use lib.ListN.{length, take};
-ghost use Rattle.octets.specs.Octets.{decode, encode, number, part};
 ghost use Rattle.functions.specs.Sets.{sets};
-ghost use Rattle.aka.specs.Layout.{amfSize, sqnSize};
-ghost use Rattle.aka.specs.Auc.{validAuc};
 ghost use Rattle.auc_record.specs.Views.{aucOf};
 ghost use Rattle.image_parts.specs.Written.{writtenOf};
-ghost use Rattle.auc_image.specs.Image.{amfAt, bits, image as imageOf, imageSize, readAnswer, readImage, sqnAt, unread, writeAnswer};
+ghost use Rattle.auc_image.specs.Image.{readAnswer, unread, writeAnswer};
 ghost use Rattle.auc_image.specs.Views.{readOf};
-
-// Where AMF begins, and where SEQ_HE.
-const AMF: usize = 33;
-
-const SQN: usize = AMF + 2;
 
 // The octets of an image.
 pub const SIZE: usize = SQN + 6;
-
-// SEQ_HE stands above the 5 bits of the next index.
-const INDICES: u64 = 32;
 
 // `refusal` is 0 where the record was read; otherwise the record is zero.
 pub struct Answer {
     pub refusal: u8,
     pub auc: Auc,
-}
-
-// SEQ_HE of a valid record above the next index, in six octets.
-fn sqn_of(auc: Auc) -> [u8; 6]
-    requires { ⌜ validAuc 5 sets (aucOf auc) ≡ true ⌝ }
-    ensures { λ r. ⌜ r ≡ encode sqnSize (number 2 (bits 5 (aucOf auc))) ⌝ }
-{
-    tokens::sqn_octets(INDICES * auc.seqhe + auc.next as u64)
-}
-
-// Puts AMF into an image. What stands before stays.
-fn put_amf(image: &mut [u8], amf: [u8; 2])
-    requires { ⌜ length (now image) ≡ imageSize ⌝ }
-    ensures { λ _. ⌜ take sqnAt (now (image .exit)) ≡ take amfAt (now (image .entry)) ++ amf ⌝ }
-{
-    bytes::copy(&amf, &mut image[AMF..]);
-}
-
-// Puts the last six octets into an image. What stands before stays.
-fn put_sqn(image: &mut [u8], sqn: [u8; 6])
-    requires { ⌜ length (now image) ≡ imageSize ⌝ }
-    ensures { λ _. ⌜ now (image .exit) ≡ take sqnAt (now (image .entry)) ++ sqn ⌝ }
-{
-    bytes::copy(&sqn, &mut image[SQN..]);
-}
-
-// Fills an image with a valid record.
-fn fill(auc: Auc, image: &mut [u8])
-    requires valid { ⌜ validAuc 5 sets (aucOf auc) ≡ true ⌝ }
-    requires size { ⌜ length (now image) ≡ imageSize ⌝ }
-    ensures { λ _. ⌜ now (image .exit) ≡ imageOf 5 (aucOf auc) ⌝ }
-{
-    let keys = auc.keys;
-    let amf = auc.amf;
-    let sqn = sqn_of(auc);
-    image_parts::put_head(image, keys);
-    put_amf(image, amf);
-    put_sqn(image, sqn);
 }
 
 // Writes the image of `auc`: 0, or the refusal's number, and then the buffer is as it was.
@@ -81,43 +31,6 @@ pub fn write(auc: Auc, buffer: &mut [u8]) -> u8
     }
     fill(auc, buffer);
     0
-}
-
-// The AMF of an image.
-fn amf_in(image: &[u8]) -> [u8; 2]
-    requires { ⌜ length (now image) ≡ imageSize ⌝ }
-    ensures { λ r. ⌜ r ≡ part amfAt amfSize (now (image .entry)) ⌝ }
-{
-    [image[AMF], image[AMF + 1]]
-}
-
-// The number of an image's last six octets.
-fn sqn_in(image: &[u8]) -> u64
-    requires { ⌜ length (now image) ≡ imageSize ⌝ }
-    ensures { λ r. ⌜ r ≡ decode (part sqnAt sqnSize (now (image .entry))) ⌝ }
-{
-    tokens::sqn_number([
-        image[SQN],
-        image[SQN + 1],
-        image[SQN + 2],
-        image[SQN + 3],
-        image[SQN + 4],
-        image[SQN + 5],
-    ])
-}
-
-// The record of an image.
-fn unpack(image: &[u8]) -> Auc
-    requires { ⌜ length (now image) ≡ imageSize ⌝ }
-    ensures { λ r. ⌜ aucOf r ≡ readImage 5 (now (image .entry)) ⌝ }
-{
-    let sqn = sqn_in(image);
-    Auc {
-        keys: image_parts::keys_in(image),
-        amf: amf_in(image),
-        seqhe: sqn / INDICES,
-        next: (sqn % INDICES) as u8,
-    }
 }
 
 // The answer of a refused reading.

@@ -47,7 +47,7 @@ pub fn mac_s_right(
     ensures { λ r. ⌜ ((keys : KeysOf) (rand : Octets) → Started keys rand (now (w .entry)) c → sqn ≡ sqnMsIn (sets .under keys) rand auts → r ≡ macSRight (sets .under keys) rand auts) ⌝ }
 {
     let mac = tokens::mac_s_in(auts);
-    let expected = functions::f1s(t, w, c, sqn, [0; 2]);
+    let expected = mac_functions::f1s(t, w, c, sqn, [0; 2]);
     tokens::same(mac, expected)
 }
 

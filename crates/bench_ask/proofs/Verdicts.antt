@@ -8,10 +8,10 @@ use Rattle.octets.specs.Octets.{Octets, decode}
 use Rattle.functions.specs.Sets.{sets}
 use Rattle.aka.specs.Usim as card
 use Rattle.aka.specs.Vlr as node
-use Rattle.usim.specs.declared.Verdict.{Verdict}
-use Rattle.usim.specs.declared.Verdict.the-variants.{Accepted, Sync, Mac, Refused}
-use Rattle.usim.specs.Views.{verdictOf, sqnGiven, sqnDue}
-use Rattle.usim.proofs.Verdict.{the-type}
+use Rattle.usim_record.specs.declared.Verdict.{Verdict}
+use Rattle.usim_record.specs.declared.Verdict.the-variants.{Accepted, Sync, Mac, Refused}
+use Rattle.usim_record.specs.Views.{verdictOf, sqnGiven, sqnDue}
+use Rattle.usim_record.proofs.Verdict.{the-type}
 use Rattle.bench_replies.specs.Replies.{mac}
 use Rattle.bench_state.specs.Bench.{Bench, Acted, askAnswer, cardAnswer, judged, asked, outOfStep, onVerdict}
 use Rattle.bench_outcomes.specs.Steps.{sqnAsked, Failed, OnAuts, OnPass}

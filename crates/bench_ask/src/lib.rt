@@ -6,7 +6,7 @@ use usim::Verdict;
 use vlr::Vlr;
 ghost use mathlib.Core.Path.{_≡_};
 ghost use Rattle.aka.specs.Usim.{accepted as acceptedOf};
-ghost use Rattle.usim.specs.Views.{verdictOf, answerOf as cardAnswerOf};
+ghost use Rattle.usim_record.specs.Views.{verdictOf, answerOf as cardAnswerOf};
 ghost use Rattle.vlr_record.specs.Views.{answerOf, vlrOf};
 ghost use Rattle.bench_state.specs.Bench.{askAnswer, cardAnswer, onVerdict, ask as askOf};
 ghost use Rattle.bench_state.specs.Views.{benchOf, actedOf};

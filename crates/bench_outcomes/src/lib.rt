@@ -6,7 +6,7 @@ use usim::Usim;
 use vlr::Outcome;
 ghost use mathlib.Core.Path.{_≡_};
 ghost use Rattle.aka.specs.Vlr.{refusalOf};
-ghost use Rattle.usim.specs.Views.{usimOf};
+ghost use Rattle.usim_record.specs.Views.{usimOf};
 ghost use Rattle.vlr_record.specs.Views.{answerOf, outcomeOf};
 ghost use Rattle.bench_replies.specs.Views.{replyOf};
 ghost use Rattle.bench_state.specs.Bench.{Bench as BenchOf, unlessRefused, judged as judgedOf, asked as askedOf, outOfStep};

@@ -1,5 +1,5 @@
 -- The code's values as the definitions have them. Assumes nothing: these are definitions.
-use Rattle.usim.specs.Views.{usimOf}
+use Rattle.usim_record.specs.Views.{usimOf}
 use Rattle.auc_record.specs.Views.{aucOf}
 use Rattle.vlr_record.specs.Views.{vlrOf}
 use Rattle.bench_replies.specs.Views.{replyOf}

@@ -6,7 +6,7 @@ ghost use Prim.Native.Nat.{_<_, _^_};
 ghost use lib.ListN.{length};
 ghost use Rattle.functions.specs.Sets.{sets};
 ghost use Rattle.aka.specs.Usim.{validUsim};
-ghost use Rattle.usim.specs.Views.{usimOf, sqnGiven, answerOf};
+ghost use Rattle.usim_record.specs.Views.{usimOf, sqnGiven, answerOf};
 ghost use Rattle.usim_image.specs.Image.{image as usimImage, imageSize as usimImageSize};
 ghost use Rattle.card_answers.specs.Answers.{Lent, untouched, answered};
 

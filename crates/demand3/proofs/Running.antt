@@ -12,8 +12,8 @@ use Rattle.aka.specs.Functions.{Functions}
 use Rattle.aka.specs.Auc.{AucAnswer, kept, reset, countOf, resync}
 use Rattle.aka.specs.Usim as usim
 use Rattle.aka.specs.Demand3 as aka
-use Rattle.usim.specs.declared.Usim.{Usim}
-use Rattle.usim.specs.Views as cardViews
+use Rattle.usim_record.specs.declared.Usim.{Usim}
+use Rattle.usim_record.specs.Views as cardViews
 use Rattle.auc_record.specs.Views as centreViews
 use Rattle.demand3.specs.Running.{Setting, Ran, Call, Chain, callOf, steps, settingOf, Demand3}
 

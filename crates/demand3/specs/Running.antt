@@ -11,9 +11,9 @@ use Rattle.functions.specs.Challenge.{keysOf}
 use Rattle.aka.specs.Auc.{kept, reset, countOf, resync}
 use Rattle.aka.specs.Usim.{challenge}
 use Rattle.aka.specs.Demand3 as aka
-use Rattle.usim.specs.declared.Usim.{Usim}
-use Rattle.usim.specs.declared.Answer as card
-use Rattle.usim.specs.Views as cardViews
+use Rattle.usim_record.specs.declared.Usim.{Usim}
+use Rattle.usim_record.specs.declared.Answer as card
+use Rattle.usim_record.specs.Views as cardViews
 use Rattle.auc_record.specs.declared.Auc.{Auc}
 use Rattle.auc_record.specs.declared.Answer as centre
 use Rattle.auc_record.specs.Views as centreViews

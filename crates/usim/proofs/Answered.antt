@@ -6,9 +6,9 @@ use Rattle.octets.specs.Octets.{Octets, zeros}
 use Rattle.functions.specs.Sets.{sets}
 use Rattle.aka.specs.Usim.{Usim, Verdict, refused, unchanged, answerWith, challenge}
 use Rattle.aka.proofs.Verdicts.{answer-of}
-use Rattle.usim.specs.declared.Answer.{Answer}
-use Rattle.usim.specs.declared.Verdict.the-variants.{Refused}
-use Rattle.usim.specs.Views.{verdictOf, answerOf, sqnGiven, sqnDue}
+use Rattle.usim_record.specs.declared.Answer.{Answer}
+use Rattle.usim_record.specs.declared.Verdict.the-variants.{Refused}
+use Rattle.usim_record.specs.Views.{verdictOf, answerOf, sqnGiven, sqnDue}
 use Rattle.usim.specs.Steps.{Answers}
 
 module _ (usim : Usim) (rand autn : Octets) (r : Answer) where

@@ -9,8 +9,8 @@ use Rattle.functions.specs.Challenge.{Started}
 use Rattle.functions.specs.Sets.{sets}
 use Rattle.aka.specs.Functions.{Keys}
 use Rattle.aka.specs.Usim.{Usim, Verdict, sqnIn, macRight, answerWith}
-use Rattle.usim.specs.declared.Answer.{Answer}
-use Rattle.usim.specs.Views.{verdictOf, answerOf, sqnGiven, sqnDue}
+use Rattle.usim_record.specs.declared.Answer.{Answer}
+use Rattle.usim_record.specs.Views.{verdictOf, answerOf, sqnGiven, sqnDue}
 
 -- MAC is right, and SQN and RES are those of the challenge
 pub record Authentic (keys : Keys) (rand autn : Octets) (w : List ℕ) (c : Challenge) (n : ℕ) (r : Octets) : Type 0 where

@@ -1,7 +1,11 @@
-// The USIM (document 01: card): its record, and its answer to a challenge.
-
+// The USIM (document 01: card): its answer to a challenge. Its record is handed on from `usim_record`.
 use functions::Challenge;
-use functions::Keys;
+pub use usim_record::Answer;
+pub use usim_record::Usim;
+pub use usim_record::Verdict;
+pub use usim_record::is_valid;
+pub use usim_record::new;
+use usim_record::unchanged;
 ghost use mathlib.Core.Bool.{true};
 ghost use mathlib.Core.Path.{_≡_};
 ghost use Prim.Native.Nat.{_<_, _^_};
@@ -10,69 +14,9 @@ ghost use Rattle.aes_tables.specs.RoundTable.{IsRoundTable};
 ghost use Rattle.functions.specs.Challenge.{keysOf, Started};
 ghost use Rattle.functions.specs.Sets.{sets};
 ghost use Rattle.aka.specs.Functions.{Keys as KeysOf, dummyAmf};
-ghost use Rattle.aka.specs.Usim.{newUsim, validUsim, sqnMs, sqnIn, macRight, makeAuts, accepted, unchanged as unchangedOf, judgement, challenge as challengeOf};
-ghost use Rattle.usim.specs.Views.{usimOf, verdictOf, answerOf, sqnGiven, sqnDue};
+ghost use Rattle.aka.specs.Usim.{validUsim, sqnMs, sqnIn, macRight, makeAuts, accepted, judgement, challenge as challengeOf};
+ghost use Rattle.usim_record.specs.Views.{usimOf, verdictOf, answerOf, sqnGiven, sqnDue};
 ghost use Rattle.usim.specs.Steps.{Authentic, Answers};
-
-// The thirty-two places of the card hold a SEQ for each index.
-pub struct Usim {
-    pub keys: Keys,
-    pub places: [u64; 32],
-}
-
-// An acceptance has its SQN, a refusal its number.
-pub enum Verdict {
-    Accepted(u64),
-    Sync,
-    Mac,
-    Refused(u8),
-}
-
-// `usim` is the next record. Octets that the verdict does not give are zero.
-pub struct Answer {
-    pub verdict: Verdict,
-    pub usim: Usim,
-    pub res: [u8; 8],
-    pub ck: [u8; 16],
-    pub ik: [u8; 16],
-    pub auts: [u8; 14],
-}
-
-// A new USIM: all places 0.
-pub fn new(keys: Keys) -> Usim
-    ensures { λ r. ⌜ usimOf r ≡ newUsim 5 (keysOf keys) ⌝ }
-{
-    Usim {
-        keys,
-        places: [0; 32],
-    }
-}
-
-// Whether refusal 1 does not apply.
-pub fn is_valid(usim: Usim) -> bool
-    ensures { λ r. ⌜ r ≡ validUsim 5 sets (usimOf usim) ⌝ }
-{
-    let keys = usim.keys;
-    let places = usim.places;
-    if !functions::is_known(keys.set) {
-        return false;
-    }
-    places::within(places)
-}
-
-// An answer that changes nothing and gives no keys.
-fn unchanged(verdict: Verdict, usim: Usim, auts: [u8; 14]) -> Answer
-    ensures { λ r. ⌜ (answerOf r ≡ unchangedOf (verdictOf verdict) (usimOf usim) auts) × (r .verdict ≡ verdict) ⌝ }
-{
-    Answer {
-        verdict,
-        usim,
-        res: [0; 8],
-        ck: [0; 16],
-        ik: [0; 16],
-        auts,
-    }
-}
 
 // Whether AUTN's MAC is f1 of SQN, RAND and AUTN's AMF.
 fn mac_right(t: &[u32; 256], w: &[u32; 44], c: Challenge, sqn: [u8; 6], autn: [u8; 16]) -> bool
@@ -80,7 +24,7 @@ fn mac_right(t: &[u32; 256], w: &[u32; 44], c: Challenge, sqn: [u8; 6], autn: [u
     ensures { λ r. ⌜ ((keys : KeysOf) (rand : Octets) → Started keys rand (now (w .entry)) c → sqn ≡ sqnIn (sets .under keys) rand autn → r ≡ macRight (sets .under keys) rand autn) ⌝ }
 {
     let mac = octets::eight(autn, 8);
-    let expected = functions::f1(t, w, c, sqn, tokens::amf_in(autn));
+    let expected = mac_functions::f1(t, w, c, sqn, tokens::amf_in(autn));
     tokens::same(mac, expected)
 }
 
@@ -100,7 +44,7 @@ fn auts(t: &[u32; 256], w: &[u32; 44], c: Challenge, usim: Usim) -> [u8; 14]
     let places = usim.places;
     let sqn = tokens::sqn_octets(places::sqn_ms(places));
     let ak = ak_star(t, w, c);
-    let mac = functions::f1s(t, w, c, sqn, [0; 2]);
+    let mac = mac_functions::f1s(t, w, c, sqn, [0; 2]);
     tokens::auts(sqn, ak, mac)
 }
 

@@ -1,6 +1,6 @@
 // The packed image of a USIM (document 01: card), most significant bit first: edition and set in 4 bits each, K, OPc, and the places by
 // index.
-use usim::Usim;
+use usim_record::Usim;
 ghost use mathlib.Core.Bool.{true};
 ghost use mathlib.Core.List.{_++_};
 ghost use mathlib.Core.Path.{_≡_};
@@ -10,7 +10,7 @@ ghost use Rattle.octets.specs.Octets.{Below, decode, digits, encode, number};
 ghost use Rattle.functions.specs.Sets.{sets};
 ghost use Rattle.aka.specs.Sequence.{indices};
 ghost use Rattle.aka.specs.Usim.{validUsim};
-ghost use Rattle.usim.specs.Views.{usimOf};
+ghost use Rattle.usim_record.specs.Views.{usimOf};
 ghost use Rattle.image_parts.specs.Head.{seqBits};
 ghost use Rattle.image_parts.specs.Written.{writtenOf};
 ghost use Rattle.usim_image.specs.Image.{image as imageOf, imageSize, placesAt, placesSize, readAnswer, readImage, unread, writeAnswer};
@@ -61,7 +61,7 @@ fn fill(usim: Usim, image: &mut [u8])
 pub fn write(usim: Usim, buffer: &mut [u8]) -> u8
     ensures { λ r. ⌜ writtenOf r (now (buffer .exit)) ≡ writeAnswer 5 sets (usimOf usim) (now (buffer .entry)) ⌝ }
 {
-    if !usim::is_valid(usim) {
+    if !usim_record::is_valid(usim) {
         return 1;
     }
     if buffer.len() != SIZE {
@@ -100,7 +100,7 @@ fn refused(number: u8) -> Answer
 {
     Answer {
         refusal: number,
-        usim: usim::new(image_parts::no_keys()),
+        usim: usim_record::new(image_parts::no_keys()),
     }
 }
 

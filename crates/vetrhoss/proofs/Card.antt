@@ -11,7 +11,7 @@ use Rattle.aka.specs.Usim.{Usim, UsimAnswer, Verdict, accepted, macFailure, syn
 use Rattle.aka.proofs.Places.{within-set}
 use Rattle.aka.proofs.Sequence.{seq-le}
 use Rattle.aka.proofs.Verdicts.{valid-parts, answer-of, not-accepted-unchanged}
-use Rattle.usim.specs.Views.{sqnDue}
+use Rattle.usim_record.specs.Views.{sqnDue}
 use Rattle.usim_image.specs.Image.{Read, imageSize, readAnswer}
 use Rattle.usim_image.proofs.RoundTrips.{round-trips}
 use Rattle.card_answers.specs.Answers.{answered}

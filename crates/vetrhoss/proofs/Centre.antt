@@ -7,14 +7,14 @@ use Rattle.octets.specs.Octets.{Octets}
 use Rattle.functions.specs.Sets.{sets}
 use Rattle.aka.specs.Auc.{AucAnswer, validAuc}
 use Rattle.auc_image.specs.Image.{Read, image as aucImage, imageSize, readAnswer}
-use Rattle.auc_image.proofs.RoundTrips.{reading-sound}
+use Rattle.auc_image.proofs.RoundTrips.{round-trips}
 use Rattle.interface_parts.specs.Results.{outcomeResult}
 use Rattle.centre_answers.specs.Answers.{Batched, imageAfter, settled}
 
 -- an image that was read has its length and a valid record
 pub held : (x : Octets) (r : Read) → r ≡ readAnswer 5 sets x → r .refusal ≡ 0 → (length x ≡ imageSize) × (validAuc 5 sets (r .auc) ≡ true)
 held x r e none =
-    let sound = reading-sound x (sym (ap (λ (y : Read). y .refusal) e) ∙ none) in
+    let sound = round-trips .sound x (sym (ap (λ (y : Read). y .refusal) e) ∙ none) in
     (sound .0, ap (λ (y : Read). validAuc 5 sets (y .auc)) e ∙ sound .1)
 
 -- the code's answer is the one due

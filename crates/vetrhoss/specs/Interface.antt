@@ -12,7 +12,7 @@ use Rattle.aka.specs.Layout.{keySize, amfSize, resSize, ckSize, ikSize, autsSiz
 use Rattle.aka.specs.Functions.{Keys}
 use Rattle.aka.specs.Usim.{Usim, newUsim, challenge}
 use Rattle.aka.specs.Auc.{Auc, AucAnswer, newAuc, order, resync}
-use Rattle.usim.specs.Views.{sqnDue}
+use Rattle.usim_record.specs.Views.{sqnDue}
 use Rattle.usim_image.specs.Image as usim
 use Rattle.auc_image.specs.Image as auc
 use Rattle.interface_parts.specs.Results.{resultOf, unreadResult}

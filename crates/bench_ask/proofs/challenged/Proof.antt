@@ -2,7 +2,7 @@
 use mathlib.Core.Path.{_≡_, sym, ap, _∙_}
 use Rattle.aka.specs.Usim.{UsimAnswer}
 use Rattle.aka.specs.Vlr.{VlrAnswer}
-use Rattle.usim.specs.Views.{answerOf}
+use Rattle.usim_record.specs.Views.{answerOf}
 use Rattle.bench_state.specs.Bench.{cardAnswer, onVerdict}
 use Rattle.bench_state.specs.Views.{benchOf}
 use Rattle.bench_ask.proofs.Verdicts.{other, card-is, sqn-is, on}
@@ -41,7 +41,7 @@ returns-2 c =
     (c .passed .ensures (record {
       vlr-is = ap (λ (v : VlrAnswer). v .vlr) (sym (start .pre));
       answer-is = sym (answer-is at);
-      sqn-is = sqn-is bench (start .pre) (found .verdict .given .1) (at .challenge .ensures .1);
+      sqn-is = sqn-is bench (start .pre) (found .verdict .given .1) (at .challenge .ensures .1 .0);
     }))
     ∙ ap (λ (a : UsimAnswer). onVerdict bench (a .verdict)) (answer-is at)
 

@@ -1,7 +1,7 @@
 -- `passed` is what an acceptance does. Assumes nothing.
 use mathlib.Core.Path.{ap, _∙_}
 use Rattle.aka.specs.Vlr.{VlrAnswer}
-use Rattle.usim.specs.Views.{usimOf}
+use Rattle.usim_record.specs.Views.{usimOf}
 use Rattle.vlr_record.specs.Views.{answerOf}
 use Rattle.bench_replies.specs.Replies.{Reply}
 use Rattle.bench_state.specs.Bench.{asked, judged}

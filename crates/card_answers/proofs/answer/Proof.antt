@@ -3,9 +3,9 @@ use Prim.Native.Nat.{ℕ, _<_, _^_}
 use mathlib.Core.Path.{_≡_, refl}
 use native.Mathlib.Omega.{arith}
 use Rattle.octets.specs.Octets.{Octets}
-use Rattle.usim.specs.declared.Verdict.{Verdict}
-use Rattle.usim.specs.declared.Verdict.the-variants.{Accepted}
-use Rattle.usim.specs.Views.{sqnGiven}
+use Rattle.usim_record.specs.declared.Verdict.{Verdict}
+use Rattle.usim_record.specs.declared.Verdict.the-variants.{Accepted}
+use Rattle.usim_record.specs.Views.{sqnGiven}
 use Rattle.card_answers.specs.Answers.{untouched}
 use borrow.Author.Needs.{needs}
 use Rattle.card_answers.proofs.answer.Statement.{statement}

@@ -8,7 +8,7 @@ use Rattle.aka.specs.Sequence.{limit}
 use Rattle.aka.specs.Usim.{sqnMs, makeAuts}
 use Rattle.aka.proofs.Places.{within}
 use Rattle.aka.proofs.Verdicts.{valid-parts}
-use Rattle.usim.specs.Views.{usimOf}
+use Rattle.usim_record.specs.Views.{usimOf}
 use borrow.Author.Needs.{needs}
 use Rattle.usim.proofs.auts.Statement.{statement}
 use Rattle.usim.proofs.auts.Tie as tie

@@ -5,7 +5,7 @@ use borrow.Author.Tests.{not-true, not-false, eq-eqb, ne-eqb}
 use Rattle.functions.specs.Sets.{sets}
 use Rattle.aka.specs.Usim.{validUsim, sized}
 use Rattle.aka.proofs.Verdicts.{refused-1, refused-3, judged, true-sized}
-use Rattle.usim.specs.Views.{usimOf}
+use Rattle.usim_record.specs.Views.{usimOf}
 use Rattle.usim.proofs.Answered.{answered, refusal}
 use borrow.Author.Needs.{needs}
 use Rattle.usim.proofs.challenge.Statement.{statement}

@@ -8,7 +8,7 @@ use Rattle.functions.specs.Challenge.{keysOf, Started}
 use Rattle.functions.specs.Sets.{sets}
 use Rattle.aka.specs.Layout.{readAutn}
 use Rattle.aka.specs.Usim.{macFailure, sqnIn, judgement, answerWith}
-use Rattle.usim.specs.Views.{usimOf}
+use Rattle.usim_record.specs.Views.{usimOf}
 use borrow.Author.Needs.{needs}
 use Rattle.usim.proofs.judge.Statement.{statement}
 use Rattle.usim.proofs.judge.Tie as tie

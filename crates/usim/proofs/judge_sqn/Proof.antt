@@ -6,7 +6,7 @@ use borrow.Author.Tests.{not-true, not-false}
 use Rattle.functions.specs.Challenge.{keysOf}
 use Rattle.functions.specs.Sets.{sets}
 use Rattle.aka.specs.Usim.{accepted, syncFailure, unchanged, judgement, answerWith}
-use Rattle.usim.specs.Views.{usimOf}
+use Rattle.usim_record.specs.Views.{usimOf}
 use borrow.Author.Needs.{needs}
 use Rattle.usim.proofs.judge_sqn.Statement.{statement}
 use Rattle.usim.proofs.judge_sqn.Tie as tie

@@ -6,7 +6,7 @@ use native.Mathlib.Omega.{arith}
 use Rattle.octets.specs.Octets.{Octets, number, encode}
 use Rattle.functions.specs.Sets.{sets}
 use Rattle.aka.specs.Usim.{Usim}
-use Rattle.usim.specs.Views.{usimOf}
+use Rattle.usim_record.specs.Views.{usimOf}
 use Rattle.image_parts.specs.Head.{seqBits, head}
 use Rattle.usim_image.specs.Image.{placesSize, image}
 use Rattle.usim_image.proofs.Places.{valid-set, valid-places}

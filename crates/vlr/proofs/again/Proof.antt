@@ -1,6 +1,6 @@
 -- `again` is the whole answer: the refusal, else the same request. Assumes nothing.
 use Rattle.aka.specs.Vlr.{again}
-use Rattle.vlr_record.proofs.Refusals.{refusal, none}
+use Rattle.vlr_refusals.proofs.Refusals.{refusal, none}
 use borrow.Author.Needs.{needs}
 use Rattle.vlr.proofs.again.Statement.{statement}
 use Rattle.vlr.proofs.again.Tie as tie

@@ -1,7 +1,7 @@
 -- `ask` is the whole answer: the refusal, else the oldest vector's request. Assumes nothing.
 use mathlib.Core.Path.{sym, ap, _∙_}
 use Rattle.aka.specs.Vlr.{request, ask}
-use Rattle.vlr_record.proofs.Refusals.{refusal, none, ask-held}
+use Rattle.vlr_refusals.proofs.Refusals.{refusal, none, ask-held}
 use borrow.Author.Needs.{needs}
 use Rattle.vlr.proofs.ask.Statement.{statement}
 use Rattle.vlr.proofs.ask.Tie as tie

@@ -2,7 +2,7 @@
 use mathlib.Core.Path.{sym, ap, _∙_}
 use native.Mathlib.Omega.{arith}
 use Rattle.aka.specs.Vlr.{Vlr, done, plain, added, renew}
-use Rattle.vlr_record.proofs.Refusals.{refusal, none, renew-fits}
+use Rattle.vlr_refusals.proofs.Refusals.{refusal, none, renew-fits}
 use borrow.Author.Needs.{needs}
 use Rattle.vlr.proofs.renew.Statement.{statement}
 use Rattle.vlr.proofs.renew.Tie as tie

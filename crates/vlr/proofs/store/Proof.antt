@@ -1,7 +1,7 @@
 -- `store` is the whole answer: the refusal, else the record with the batch. Assumes nothing.
 use mathlib.Core.Path.{sym, ap, _∙_}
 use Rattle.aka.specs.Vlr.{Vlr, done, plain, store}
-use Rattle.vlr_record.proofs.Refusals.{refusal, none, store-fits}
+use Rattle.vlr_refusals.proofs.Refusals.{refusal, none, store-fits}
 use borrow.Author.Needs.{needs}
 use Rattle.vlr.proofs.store.Statement.{statement}
 use Rattle.vlr.proofs.store.Tie as tie

@@ -1,7 +1,7 @@
 -- `sync` is the whole answer: the refusal, else RAND with AUTS. Assumes nothing.
 use mathlib.Core.Path.{sym, _∙_}
 use Rattle.aka.specs.Vlr.{sync}
-use Rattle.vlr_record.proofs.Refusals.{refusal, none, asked-sized}
+use Rattle.vlr_refusals.proofs.Refusals.{refusal, none, asked-sized}
 use borrow.Author.Needs.{needs}
 use Rattle.vlr.proofs.sync.Statement.{statement}
 use Rattle.vlr.proofs.sync.Tie as tie

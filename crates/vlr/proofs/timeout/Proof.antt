@@ -1,7 +1,7 @@
 -- `timeout` is the whole answer: the refusal, else Idle. Assumes nothing.
 use mathlib.Core.Path.{ap, _∙_}
 use Rattle.aka.specs.Vlr.{Vlr, done, plain, timeout}
-use Rattle.vlr_record.proofs.Refusals.{refusal, none}
+use Rattle.vlr_refusals.proofs.Refusals.{refusal, none}
 use borrow.Author.Needs.{needs}
 use Rattle.vlr.proofs.timeout.Statement.{statement}
 use Rattle.vlr.proofs.timeout.Tie as tie

@@ -1,0 +1,40 @@
+-- The packed image of an AuC's record (document 01: centre), most significant bit first: how it lies in octets. Document 01, 'Numbers and
+-- records'. `w` is the width of the index in bits: 5 in document 01. Assumes nothing: these are definitions.
+use Prim.Native.Nat.{ℕ, _+_, _*_}
+use mathlib.Core.List.{List, _++_}
+use Rattle.octets.specs.Octets.{Octets, part, digits, number, encode, decode}
+use Rattle.aka.specs.Layout.{amfSize, sqnSize}
+use Rattle.aka.specs.Auc.{Auc}
+use Rattle.image_parts.specs.Head.{headSize, seqBits, head, keysIn}
+
+-- ---- edition, set, K and OPc, then AMF, then SEQ_HE and the next index
+
+abbrev pub amfAt : ℕ
+amfAt = headSize
+
+abbrev pub sqnAt : ℕ
+sqnAt = amfAt + amfSize
+
+abbrev pub imageSize : ℕ
+imageSize = sqnAt + sqnSize
+
+-- the bits of the last octets
+abbrev pub bitsIn : Octets → List ℕ
+bitsIn x = digits 2 (8 * sqnSize) (decode (part sqnAt sqnSize x))
+
+module _ (w : ℕ) where
+  -- SEQ_HE in 48 - w bits, then the next index in w bits
+  abbrev pub bits : Auc → List ℕ
+  bits auc = digits 2 (seqBits w) (auc .seqhe) ++ digits 2 w (auc .next)
+
+  unfoldable pub image : Auc → Octets
+  image auc = head (auc .keys) ++ (auc .amf ++ encode sqnSize (number 2 (bits auc)))
+
+  -- the record in an image
+  unfoldable pub readImage : Octets → Auc
+  readImage x = record {
+    keys = keysIn x;
+    amf = part amfAt amfSize x;
+    seqhe = number 2 (part 0 (seqBits w) (bitsIn x));
+    next = number 2 (part (seqBits w) w (bitsIn x));
+  }

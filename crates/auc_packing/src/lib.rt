@@ -1,0 +1,96 @@
+// An AuC's record packed into an image and unpacked (document 01: centre), most significant bit first: edition and set in 4 bits each, K,
+// OPc, AMF, SEQ_HE in 43 bits and the next index in 5.
+use auc_record::Auc;
+ghost use mathlib.Core.Bool.{true};
+ghost use mathlib.Core.List.{_++_};
+ghost use mathlib.Core.Path.{_≡_};
+ghost use lib.ListN.{length, take};
+ghost use Rattle.octets.specs.Octets.{decode, encode, number, part};
+ghost use Rattle.functions.specs.Sets.{sets};
+ghost use Rattle.aka.specs.Layout.{amfSize, sqnSize};
+ghost use Rattle.aka.specs.Auc.{validAuc};
+ghost use Rattle.auc_record.specs.Views.{aucOf};
+ghost use Rattle.auc_packing.specs.Image.{amfAt, bits, image as imageOf, imageSize, readImage, sqnAt};
+
+// Where AMF begins, and where SEQ_HE.
+const AMF: usize = 33;
+
+pub const SQN: usize = AMF + 2;
+
+// SEQ_HE stands above the 5 bits of the next index.
+const INDICES: u64 = 32;
+
+// SEQ_HE of a valid record above the next index, in six octets.
+fn sqn_of(auc: Auc) -> [u8; 6]
+    requires { ⌜ validAuc 5 sets (aucOf auc) ≡ true ⌝ }
+    ensures { λ r. ⌜ r ≡ encode sqnSize (number 2 (bits 5 (aucOf auc))) ⌝ }
+{
+    tokens::sqn_octets(INDICES * auc.seqhe + auc.next as u64)
+}
+
+// Puts AMF into an image. What stands before stays.
+fn put_amf(image: &mut [u8], amf: [u8; 2])
+    requires { ⌜ length (now image) ≡ imageSize ⌝ }
+    ensures { λ _. ⌜ take sqnAt (now (image .exit)) ≡ take amfAt (now (image .entry)) ++ amf ⌝ }
+{
+    bytes::copy(&amf, &mut image[AMF..]);
+}
+
+// Puts the last six octets into an image. What stands before stays.
+fn put_sqn(image: &mut [u8], sqn: [u8; 6])
+    requires { ⌜ length (now image) ≡ imageSize ⌝ }
+    ensures { λ _. ⌜ now (image .exit) ≡ take sqnAt (now (image .entry)) ++ sqn ⌝ }
+{
+    bytes::copy(&sqn, &mut image[SQN..]);
+}
+
+// Fills an image with a valid record.
+pub fn fill(auc: Auc, image: &mut [u8])
+    requires valid { ⌜ validAuc 5 sets (aucOf auc) ≡ true ⌝ }
+    requires size { ⌜ length (now image) ≡ imageSize ⌝ }
+    ensures { λ _. ⌜ now (image .exit) ≡ imageOf 5 (aucOf auc) ⌝ }
+{
+    let keys = auc.keys;
+    let amf = auc.amf;
+    let sqn = sqn_of(auc);
+    image_parts::put_head(image, keys);
+    put_amf(image, amf);
+    put_sqn(image, sqn);
+}
+
+// The AMF of an image.
+fn amf_in(image: &[u8]) -> [u8; 2]
+    requires { ⌜ length (now image) ≡ imageSize ⌝ }
+    ensures { λ r. ⌜ r ≡ part amfAt amfSize (now (image .entry)) ⌝ }
+{
+    [image[AMF], image[AMF + 1]]
+}
+
+// The number of an image's last six octets.
+fn sqn_in(image: &[u8]) -> u64
+    requires { ⌜ length (now image) ≡ imageSize ⌝ }
+    ensures { λ r. ⌜ r ≡ decode (part sqnAt sqnSize (now (image .entry))) ⌝ }
+{
+    tokens::sqn_number([
+        image[SQN],
+        image[SQN + 1],
+        image[SQN + 2],
+        image[SQN + 3],
+        image[SQN + 4],
+        image[SQN + 5],
+    ])
+}
+
+// The record of an image.
+pub fn unpack(image: &[u8]) -> Auc
+    requires { ⌜ length (now image) ≡ imageSize ⌝ }
+    ensures { λ r. ⌜ aucOf r ≡ readImage 5 (now (image .entry)) ⌝ }
+{
+    let sqn = sqn_in(image);
+    Auc {
+        keys: image_parts::keys_in(image),
+        amf: amf_in(image),
+        seqhe: sqn / INDICES,
+        next: (sqn % INDICES) as u8,
+    }
+}

@@ -1,0 +1,81 @@
+// The steps of the authentication centre, AuC (document 01: centre), once the refusals that come first do not apply: a batch is sent, and
+// SEQ_HE is kept or reset by an AUTS.
+use auc_record::Answer;
+use auc_record::Auc;
+use auc_record::Outcome;
+use batches::Series;
+use functions::Challenge;
+ghost use Prim.Native.Nat.{_+_, _*_, _^_, _≤_, _<_};
+ghost use mathlib.Core.Path.{_≡_};
+ghost use lib.ListN.{length};
+ghost use Rattle.octets.specs.Octets.{Octets};
+ghost use Rattle.aes_tables.specs.RoundTable.{IsRoundTable};
+ghost use Rattle.functions.specs.Challenge.{keysOf, IsSchedule, Started};
+ghost use Rattle.aka.specs.Sequence.{limit};
+ghost use Rattle.auc_record.specs.Views.{aucOf, outcomeOf, answerOf};
+ghost use Rattle.auc_record.specs.Steps.{sentFrom, renewed};
+
+// The largest SEQ.
+const LIMIT: u64 = 8796093022207;
+
+// Sends a batch of n whose SEQ follow `start`, if the last is within the limit.
+pub fn send(
+    t: &[u32; 256],
+    w: &[u32; 44],
+    outcome: Outcome,
+    auc: Auc,
+    start: u64,
+    n: u8,
+    rands: &[u8],
+    batch: &mut [u8],
+) -> Answer
+    requires made { ⌜ IsRoundTable (now t) × IsSchedule (keysOf (auc .keys)) (now w) ⌝ }
+    requires room { ⌜ (n ≤ 5) × (start < 2 ^ 59) × (auc .next < 32) ⌝ }
+    requires lent { ⌜ (length (now rands) ≡ 16 * n) × (length (now batch) ≡ 72 * n) ⌝ }
+    ensures { λ r. ⌜ answerOf r (now (batch .exit)) ≡ sentFrom (aucOf auc) start n (now (rands .entry)) (now (batch .entry)) (outcomeOf outcome) ⌝ }
+{
+    if LIMIT < start + (n as u64) {
+        return auc_record::refused(Outcome::Refused(6), auc);
+    }
+    let keys = auc.keys;
+    let amf = auc.amf;
+    let s = Series {
+        keys,
+        amf,
+        start,
+        next: auc.next,
+    };
+    batches::fill(t, w, s, rands, n, batch);
+    Answer {
+        outcome,
+        n,
+        auc: auc_record::after(auc, start, n),
+    }
+}
+
+// In range the batch is sent as usual, and MAC-S is not looked at. Otherwise MAC-S is verified, and SEQ_HE first becomes SEQ_MS.
+pub fn renew(
+    t: &[u32; 256],
+    w: &[u32; 44],
+    c: Challenge,
+    auts: [u8; 14],
+    auc: Auc,
+    n: u8,
+    rands: &[u8],
+    batch: &mut [u8],
+) -> Answer
+    requires made { ⌜ IsRoundTable (now t) × IsSchedule (keysOf (auc .keys)) (now w) ⌝ }
+    requires room { ⌜ (n ≤ 5) × (auc .seqhe ≤ limit 5) × (auc .next < 32) ⌝ }
+    requires lent { ⌜ (length (now rands) ≡ 16 * n) × (length (now batch) ≡ 72 * n) ⌝ }
+    ensures { λ r. ⌜ ((rand : Octets) → Started (keysOf (auc .keys)) rand (now (w .entry)) c → answerOf r (now (batch .exit)) ≡ renewed (aucOf auc) n (now (rands .entry)) (now (batch .entry)) rand auts) ⌝ }
+{
+    let sqn = auts::sqn_ms(t, w, c, auts);
+    let ms = tokens::sqn_number(sqn) / 32;
+    if auts::in_range(auc.seqhe, ms, n) {
+        return send(t, w, Outcome::Kept, auc, auc.seqhe, n, rands, batch);
+    }
+    if !auts::mac_s_right(t, w, c, sqn, auts) {
+        return auc_record::refused(Outcome::Refused(5), auc);
+    }
+    send(t, w, Outcome::Reset, auc, ms, n, rands, batch)
+}

@@ -1,0 +1,67 @@
+// The record of the USIM (document 01: card), and its answers that change nothing.
+use functions::Keys;
+ghost use mathlib.Core.Path.{_≡_};
+ghost use Rattle.functions.specs.Challenge.{keysOf};
+ghost use Rattle.functions.specs.Sets.{sets};
+ghost use Rattle.aka.specs.Usim.{newUsim, validUsim, unchanged as unchangedOf};
+ghost use Rattle.usim_record.specs.Views.{usimOf, verdictOf, answerOf};
+
+// The thirty-two places of the card hold a SEQ for each index.
+pub struct Usim {
+    pub keys: Keys,
+    pub places: [u64; 32],
+}
+
+// An acceptance has its SQN, a refusal its number.
+pub enum Verdict {
+    Accepted(u64),
+    Sync,
+    Mac,
+    Refused(u8),
+}
+
+// `usim` is the next record. Octets that the verdict does not give are zero.
+pub struct Answer {
+    pub verdict: Verdict,
+    pub usim: Usim,
+    pub res: [u8; 8],
+    pub ck: [u8; 16],
+    pub ik: [u8; 16],
+    pub auts: [u8; 14],
+}
+
+// A new USIM: all places 0.
+pub fn new(keys: Keys) -> Usim
+    ensures { λ r. ⌜ usimOf r ≡ newUsim 5 (keysOf keys) ⌝ }
+{
+    Usim {
+        keys,
+        places: [0; 32],
+    }
+}
+
+// Whether refusal 1 does not apply.
+pub fn is_valid(usim: Usim) -> bool
+    ensures { λ r. ⌜ r ≡ validUsim 5 sets (usimOf usim) ⌝ }
+{
+    let keys = usim.keys;
+    let places = usim.places;
+    if !functions::is_known(keys.set) {
+        return false;
+    }
+    places::within(places)
+}
+
+// An answer that changes nothing and gives no keys.
+pub fn unchanged(verdict: Verdict, usim: Usim, auts: [u8; 14]) -> Answer
+    ensures { λ r. ⌜ (answerOf r ≡ unchangedOf (verdictOf verdict) (usimOf usim) auts) × (r .verdict ≡ verdict) ⌝ }
+{
+    Answer {
+        verdict,
+        usim,
+        res: [0; 8],
+        ck: [0; 16],
+        ik: [0; 16],
+        auts,
+    }
+}
