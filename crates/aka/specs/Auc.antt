@@ -9,6 +9,7 @@ use Rattle.aka.specs.Layout.{Vector, randSize, sqnSize, autsSize, vector
 use Rattle.aka.specs.Functions.{Keys, Functions, Family, dummyAmf}
 use Rattle.aka.specs.Sequence.{D, indices, limit, sqnOf, seqOf}
 
+-- the centre's record
 pub record Auc : Type 0 where
   pub keys : Keys
   pub amf : Octets
@@ -71,6 +72,7 @@ unfoldable pub pairFrom : (rands : Octets) (i left : ℕ) → Pair
 pairFrom rands i zero = unequal
 pairFrom rands i (suc left) = orElse (pairWith rands i (i + 1) left) (pairFrom rands (i + 1) left)
 
+-- among n RANDs
 abbrev pub equalPair : (rands : Octets) (n : ℕ) → Pair
 equalPair rands n = pairFrom rands 0 n
 

@@ -5,9 +5,9 @@
 --   Usim        the card: its record and its answer to a challenge
 --   Auc         the centre: its record, an order, a resynchronisation
 --   Vlr         the node: its record and its nine operations
+--   Calls       the nine operations of the node as one
 --   Demand3     after a synchronisation failure and a resynchronisation the USIM accepts the new batch
 --   Table       the worked table of document 01
---   Calls       the nine operations of the node as one
 --   UsimLaws, AucLaws, VlrLaws    the other sentences of document 01 on card, centre and node, as laws
 --   OrderOfUse  over every list of calls the node uses each vector once, oldest first, and holds what was stored and not used
 --

@@ -14,6 +14,7 @@ module _ (w : ℕ) where
   abbrev pub limit : ℕ
   limit = 2 ^ (48 - w) - 1
 
+  -- SQN = 32 x SEQ + IND where w is 5, and its two parts
   abbrev pub sqnOf : ℕ → ℕ → ℕ
   sqnOf seq ind = indices * seq + ind
 

@@ -10,6 +10,7 @@ use Rattle.aka.specs.Layout.{randSize, autnSize, resSize, ckSize, ikSize
 use Rattle.aka.specs.Functions.{Keys, Functions, Family, dummyAmf}
 use Rattle.aka.specs.Sequence.{D, indices, limit, sqnOf, seqOf, indOf}
 
+-- the card's record
 pub record Usim : Type 0 where
   pub keys : Keys
   pub places : List ℕ  -- document 01: the thirty-two places of the card; a SEQ for each index

@@ -16,6 +16,7 @@ mostHeld = 16
 abbrev pub placeSize : ℕ
 placeSize = vectorSize
 
+-- Idle: no request; Asked: a request is not answered yet; Resyncing: a synchronisation failure was handed on
 pub data State : Type 0 where
   idle asked resyncing : State
 

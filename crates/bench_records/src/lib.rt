@@ -46,6 +46,7 @@ pub fn new() -> Bench
     with_keys(false, keys, [0; 2])
 }
 
+// A key that is taken makes everything new.
 pub fn key(bench: Bench, keys: Keys, amf: [u8; 2]) -> Acted
     ensures { λ r. ⌜ actedOf r ≡ keyOf (benchOf bench) (keysOf keys) amf ⌝ }
 {
@@ -82,6 +83,7 @@ fn with_counters(bench: Bench, seqhe: u64, next: u8) -> Bench
     }
 }
 
+// Another SEQ_HE and next index, within their ranges.
 pub fn put(bench: Bench, seqhe: u64, next: u64) -> Acted
     ensures { λ r. ⌜ actedOf r ≡ putOf (benchOf bench) seqhe next ⌝ }
 {
@@ -94,6 +96,7 @@ pub fn put(bench: Bench, seqhe: u64, next: u64) -> Acted
     bench_state::stays(with_counters(bench, seqhe, next as u8), Reply::PutOk)
 }
 
+// The counters of centre and card.
 pub fn show(bench: Bench) -> Acted
     ensures { λ r. ⌜ actedOf r ≡ showOf (benchOf bench) ⌝ }
 {

@@ -142,7 +142,8 @@ module _ (bench : Bench) where
   abbrev sqn : ℕ
   sqn = decode (card.sqnIn (sets .under (bench .usim .keys)) (askAnswer .rand) (askAnswer .autn))
 
-  -- what the node says of RES: it passes, or has its cause. The card and the centre of a bench have the same keys, so it passes
+  -- what the node says of RES: it passes, or has its cause. The card and the centre of a bench have the same keys, so it passes;
+  -- Answer never gives `done`
   unfoldable pub judged : node.Outcome → (left : ℕ) → replies.Reply
   judged node.done left = replies.pass sqn left
   judged node.passed left = replies.pass sqn left

@@ -1,5 +1,5 @@
-// The authentication functions f2 to f5* of sets 0 and 1; `mac_functions` has f1 and f1*. Once for a subscriber: `schedule`; once for a
-// RAND: `start`, whose result each function takes. The round table of AES is lent throughout.
+// The authentication functions f2 to f5* of sets 0 and 1; `mac_functions` has f1 and f1*. Once a call: `schedule`; once a RAND:
+// `start`, whose result each function takes. The round table of AES is lent throughout.
 //
 // A set above 1 is the caller's to refuse; here it counts as MILENAGE.
 use aes_words::Block;

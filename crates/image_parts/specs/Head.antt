@@ -9,6 +9,7 @@ use Rattle.octets.specs.Octets.{Octets, zeros, part}
 use Rattle.aka.specs.Layout.{keySize}
 use Rattle.aka.specs.Functions.{Keys, Family}
 
+-- the edition of the images that are written and read
 abbrev pub edition : ℕ
 edition = 1
 

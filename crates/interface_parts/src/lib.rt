@@ -18,7 +18,7 @@ pub fn keys_from(set: u8, k: &[u8], opc: &[u8]) -> Keys
     }
 }
 
-// The result of a call whose centre image is not read. Of its length nothing is known to refusal 2, which comes before 3.
+// The result of a call whose centre image is not read. Refusal 2 asks nothing of the image, and comes before 3.
 pub fn unread(refusal: u8, count: u64) -> u64
     ensures { λ r. ⌜ r ≡ unreadResult refusal count ⌝ }
 {

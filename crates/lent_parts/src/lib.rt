@@ -17,7 +17,7 @@ pub struct Pair {
     pub second: u8,
 }
 
-// Whether two strings of one length are the same.
+// Whether two strings of one length are the same. It ends at the first difference: RANDs are no secret.
 pub fn same(x: &[u8], y: &[u8]) -> bool
     requires { ⌜ length (now x) ≡ length (now y) ⌝ }
     ensures { λ r. ⌜ r ≡ equal (now (x .entry)) (now (y .entry)) ⌝ }

@@ -35,6 +35,7 @@ pub fn out1(t: &[u32; 256], w: &[u32; 44], opc: Block, temp: Block, in1: Block) 
     masked(t, w, opc, blocks::xor(temp, turned))
 }
 
+// OUT2 to OUT5, of TEMP.
 pub fn out2(t: &[u32; 256], w: &[u32; 44], opc: Block, temp: Block) -> Block
     requires { ⌜ IsRoundTable (now t) ⌝ }
     ensures { λ r. ⌜ octetsOf r ≡ OUT2 (cipher (now (w .entry))) (octetsOf opc) (octetsOf temp) ⌝ }

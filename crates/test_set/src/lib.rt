@@ -6,6 +6,7 @@ ghost use lib.ListN.{take};
 ghost use Rattle.octets.specs.Octets.{xor, turnLeft};
 ghost use Rattle.aes_words.specs.Block.{octetsOf};
 
+// X = K xor RAND.
 pub fn x(k: [u8; 16], rand: [u8; 16]) -> Block
     ensures { λ r. ⌜ octetsOf r ≡ xor k rand ⌝ }
 {

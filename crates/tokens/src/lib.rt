@@ -74,6 +74,7 @@ pub fn sqn_in(autn: [u8; 16], ak: [u8; 6]) -> [u8; 6]
     xor6(octets::six(autn, 0), ak)
 }
 
+// The AMF of AUTN.
 pub fn amf_in(autn: [u8; 16]) -> [u8; 2]
     ensures { λ r. ⌜ r ≡ readAutn autn .amf ⌝ }
 {
@@ -135,6 +136,7 @@ pub fn sqn_ms_in(auts: [u8; 14], ak: [u8; 6]) -> [u8; 6]
     xor6([auts[0], auts[1], auts[2], auts[3], auts[4], auts[5]], ak)
 }
 
+// The MAC-S of AUTS.
 pub fn mac_s_in(auts: [u8; 14]) -> [u8; 8]
     ensures { λ r. ⌜ r ≡ readAuts auts .mac ⌝ }
 {

@@ -11,6 +11,7 @@ ghost use Rattle.vlr_record.specs.Views.{stateOf, vlrOf};
 // The most vectors held.
 const MOST_HELD: u8 = 16;
 
+// Asked: a request is not answered yet. Resyncing: a synchronisation failure was handed on.
 pub enum State {
     Idle,
     Asked,

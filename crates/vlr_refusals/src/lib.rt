@@ -64,6 +64,7 @@ pub fn batch_refusal(vlr: Vlr, count: u64, batch: &[u8], named: bool, rest: u8) 
     refusal_or(vlr, counted, sized, named, rest)
 }
 
+// Of Store.
 pub fn store_refusal(vlr: Vlr, count: u64, batch: &[u8]) -> u8
     ensures { λ r. ⌜ r ≡ spec.storeRefusal (vlrOf vlr) count (now (batch .entry)) ⌝ }
 {
@@ -75,6 +76,7 @@ pub fn store_refusal(vlr: Vlr, count: u64, batch: &[u8]) -> u8
     batch_refusal(vlr, count, batch, named, 9)
 }
 
+// Of Ask.
 pub fn ask_refusal(vlr: Vlr) -> u8
     ensures { λ r. ⌜ r ≡ spec.askRefusal (vlrOf vlr) ⌝ }
 {
@@ -94,6 +96,7 @@ pub fn asked_refusal(vlr: Vlr, sized: bool) -> u8
     refusal_or(vlr, true, sized, is_asked(state), 0)
 }
 
+// Of Renew.
 pub fn renew_refusal(vlr: Vlr, count: u64, batch: &[u8]) -> u8
     ensures { λ r. ⌜ r ≡ spec.renewRefusal (vlrOf vlr) count (now (batch .entry)) ⌝ }
 {
@@ -101,6 +104,7 @@ pub fn renew_refusal(vlr: Vlr, count: u64, batch: &[u8]) -> u8
     batch_refusal(vlr, count, batch, is_resyncing(state), 0)
 }
 
+// Of Timeout.
 pub fn timeout_refusal(vlr: Vlr) -> u8
     ensures { λ r. ⌜ r ≡ spec.timeoutRefusal (vlrOf vlr) ⌝ }
 {
