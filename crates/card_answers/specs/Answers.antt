@@ -1,7 +1,9 @@
 -- What a challenge of the C interface returns, and what image, RES, CK, IK and AUTS hold at the end, once the record was read from its image.
 -- Assumes nothing: these are definitions.
 use Prim.Native.Nat.{ℕ}
+use mathlib.Core.Bool.{Bool, _&&_}
 use mathlib.Core.Path.{_≡_}
+use lib.Dec.{eqb}
 use lib.ListN.{length}
 use Rattle.octets.specs.Octets.{Octets}
 use Rattle.aka.specs.Layout.{resSize, ckSize, ikSize, autsSize}
@@ -20,6 +22,9 @@ pub record Challenged : Type 0 where
 -- the lengths of RES, CK, IK and AUTS
 abbrev pub Lent : (res ck ik auts : Octets) → Type 0
 Lent res ck ik auts = (length res ≡ resSize) × (length ck ≡ ckSize) × (length ik ≡ ikSize) × (length auts ≡ autsSize)
+
+abbrev pub isLent : (res ck ik auts : Octets) → Bool
+isLent res ck ik auts = eqb (length res) resSize && eqb (length ck) ckSize && eqb (length ik) ikSize && eqb (length auts) autsSize
 
 -- all as they were
 abbrev pub untouched : (result : ℕ) (image res ck ik auts : Octets) → Challenged

@@ -8,12 +8,19 @@ ghost use Rattle.functions.specs.Sets.{sets};
 ghost use Rattle.aka.specs.Usim.{validUsim};
 ghost use Rattle.usim_record.specs.Views.{usimOf, sqnGiven, answerOf};
 ghost use Rattle.usim_image.specs.Image.{image as usimImage, imageSize as usimImageSize};
-ghost use Rattle.card_answers.specs.Answers.{Lent, untouched, answered};
+ghost use Rattle.card_answers.specs.Answers.{Lent, isLent, untouched, answered};
 
 // The causes of TS 24.008.
 const MAC_FAILURE: u64 = 20;
 
 const SYNCH_FAILURE: u64 = 21;
+
+// Whether the buffers for RES, CK, IK and AUTS have their lengths.
+pub fn is_lent(res: &[u8], ck: &[u8], ik: &[u8], auts: &[u8]) -> bool
+    ensures { λ r. ⌜ r ≡ isLent (now (res .entry)) (now (ck .entry)) (now (ik .entry)) (now (auts .entry)) ⌝ }
+{
+    res.len() == 8 && ck.len() == 16 && ik.len() == 16 && auts.len() == 14
+}
 
 // The next record goes into the image.
 fn keep_usim(usim: Usim, image: &mut [u8])
@@ -23,24 +30,23 @@ fn keep_usim(usim: Usim, image: &mut [u8])
     usim_image::write(usim, image);
 }
 
-// Fills the buffers lent for RES, CK, IK and AUTS; f2, f3 and f4 are RES, CK and IK.
+// Fills the buffers lent for RES, CK, IK and AUTS, and hands the number back.
 fn give(
+    a: usim::Answer,
+    result: u64,
     res: &mut [u8],
     ck: &mut [u8],
     ik: &mut [u8],
     auts: &mut [u8],
-    f2: [u8; 8],
-    f3: [u8; 16],
-    f4: [u8; 16],
-    token: [u8; 14],
-)
+) -> u64
     requires { ⌜ Lent (now res) (now ck) (now ik) (now auts) ⌝ }
-    ensures { λ _. ⌜ (now (res .exit) ≡ f2) × (now (ck .exit) ≡ f3) × (now (ik .exit) ≡ f4) × (now (auts .exit) ≡ token) ⌝ }
+    ensures { λ r. ⌜ (r ≡ result) × (now (res .exit) ≡ a .res) × (now (ck .exit) ≡ a .ck) × (now (ik .exit) ≡ a .ik) × (now (auts .exit) ≡ a .auts) ⌝ }
 {
-    interface_parts::put(res, &f2);
-    interface_parts::put(ck, &f3);
-    interface_parts::put(ik, &f4);
-    interface_parts::put(auts, &token);
+    interface_parts::put(res, &a.res);
+    interface_parts::put(ck, &a.ck);
+    interface_parts::put(ik, &a.ik);
+    interface_parts::put(auts, &a.auts);
+    result
 }
 
 // The card's answer, told by number; the image changes with an acceptance, the buffers unless it is a refusal.
@@ -57,25 +63,14 @@ pub fn answer(
     ensures { λ r. ⌜ untouched r (now (image .exit)) (now (res .exit)) (now (ck .exit)) (now (ik .exit)) (now (auts .exit)) ≡ answered (now (image .entry)) (now (res .entry)) (now (ck .entry)) (now (ik .entry)) (now (auts .entry)) (answerOf a) (sqnGiven (a .verdict)) ⌝ }
 {
     let verdict = a.verdict;
-    let usim = a.usim;
-    let f2 = a.res;
-    let f3 = a.ck;
-    let f4 = a.ik;
-    let token = a.auts;
     match verdict {
         usim::Verdict::Accepted(sqn) => {
+            let usim = a.usim;
             keep_usim(usim, image);
-            give(res, ck, ik, auts, f2, f3, f4, token);
-            256 * sqn
+            give(a, 256 * sqn, res, ck, ik, auts)
         }
-        usim::Verdict::Sync => {
-            give(res, ck, ik, auts, f2, f3, f4, token);
-            SYNCH_FAILURE
-        }
-        usim::Verdict::Mac => {
-            give(res, ck, ik, auts, f2, f3, f4, token);
-            MAC_FAILURE
-        }
+        usim::Verdict::Sync => give(a, SYNCH_FAILURE, res, ck, ik, auts),
+        usim::Verdict::Mac => give(a, MAC_FAILURE, res, ck, ik, auts),
         usim::Verdict::Refused(number) => number as u64,
     }
 }

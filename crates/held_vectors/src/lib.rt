@@ -84,16 +84,9 @@ pub fn res(lent: &[u8]) -> [u8; 8]
     requires { ⌜ length (now lent) ≡ 8 ⌝ }
     ensures { λ r. ⌜ r ≡ now (lent .entry) ⌝ }
 {
-    [
-        lent[0],
-        lent[1],
-        lent[2],
-        lent[3],
-        lent[4],
-        lent[5],
-        lent[6],
-        lent[7],
-    ]
+    let mut octets = [0u8; 8];
+    bytes::copy(lent, &mut octets);
+    octets
 }
 
 // The XRES of a vector.
@@ -101,14 +94,4 @@ pub fn xres(vector: [u8; 72]) -> [u8; 8]
     ensures { λ r. ⌜ r ≡ readVector vector .xres ⌝ }
 {
     res(&vector[XRES..CK])
-}
-
-// An AUTS lent.
-pub fn auts(lent: &[u8]) -> [u8; 14]
-    requires { ⌜ length (now lent) ≡ 14 ⌝ }
-    ensures { λ r. ⌜ r ≡ now (lent .entry) ⌝ }
-{
-    let mut octets = [0u8; 14];
-    bytes::copy(lent, &mut octets);
-    octets
 }

@@ -6,3 +6,4 @@ pub mod Ranges
 pub mod Parts
 pub mod Walks
 pub mod Filling
+pub mod Copies

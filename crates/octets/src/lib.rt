@@ -10,24 +10,9 @@ pub fn sixteen(s: &[u8]) -> [u8; 16]
     requires { ⌜ length (now s) ≡ 16 ⌝ }
     ensures { λ r. ⌜ r ≡ now (s .entry) ⌝ }
 {
-    [
-        s[0],
-        s[1],
-        s[2],
-        s[3],
-        s[4],
-        s[5],
-        s[6],
-        s[7],
-        s[8],
-        s[9],
-        s[10],
-        s[11],
-        s[12],
-        s[13],
-        s[14],
-        s[15],
-    ]
+    let mut taken = [0u8; 16];
+    bytes::copy(s, &mut taken);
+    taken
 }
 
 // 14 lent octets.
@@ -35,22 +20,9 @@ pub fn fourteen(s: &[u8]) -> [u8; 14]
     requires { ⌜ length (now s) ≡ 14 ⌝ }
     ensures { λ r. ⌜ r ≡ now (s .entry) ⌝ }
 {
-    [
-        s[0],
-        s[1],
-        s[2],
-        s[3],
-        s[4],
-        s[5],
-        s[6],
-        s[7],
-        s[8],
-        s[9],
-        s[10],
-        s[11],
-        s[12],
-        s[13],
-    ]
+    let mut taken = [0u8; 14];
+    bytes::copy(s, &mut taken);
+    taken
 }
 
 // Eight octets from `at` on.
@@ -58,16 +30,9 @@ pub fn eight(x: [u8; 16], at: usize) -> [u8; 8]
     requires { ⌜ at ≤ 8 ⌝ }
     ensures { λ r. ⌜ r ≡ part at 8 x ⌝ }
 {
-    [
-        x[at],
-        x[at + 1],
-        x[at + 2],
-        x[at + 3],
-        x[at + 4],
-        x[at + 5],
-        x[at + 6],
-        x[at + 7],
-    ]
+    let mut taken = [0u8; 8];
+    bytes::copy(&x[at..at + 8], &mut taken);
+    taken
 }
 
 // Six octets from `at` on.
@@ -75,7 +40,9 @@ pub fn six(x: [u8; 16], at: usize) -> [u8; 6]
     requires { ⌜ at ≤ 10 ⌝ }
     ensures { λ r. ⌜ r ≡ part at 6 x ⌝ }
 {
-    [x[at], x[at + 1], x[at + 2], x[at + 3], x[at + 4], x[at + 5]]
+    let mut taken = [0u8; 6];
+    bytes::copy(&x[at..at + 6], &mut taken);
+    taken
 }
 
 pub fn xor8(x: [u8; 8], y: [u8; 8]) -> [u8; 8]

@@ -1,8 +1,10 @@
 -- The card's answer as the interface hands it on. Assumes nothing.
 use Prim.Native.Nat.{ℕ, _<_, _^_}
-use mathlib.Core.Bool.{true}
+use mathlib.Core.Bool.{true, _&&_, and-eq-true-iff}
 use mathlib.Core.Path.{_≡_, refl, sym, ap, _∙_}
 use native.Mathlib.Omega.{arith}
+use borrow.Author.Tests.{eqb-true}
+use lib.Dec.{eqb}
 use lib.ListN.{length}
 use Rattle.octets.specs.Octets.{Octets, decode}
 use Rattle.functions.specs.Sets.{sets}
@@ -14,7 +16,7 @@ use Rattle.aka.proofs.Verdicts.{valid-parts, answer-of, not-accepted-unchanged}
 use Rattle.usim_record.specs.Views.{sqnDue}
 use Rattle.usim_image.specs.Image.{Read, imageSize, readAnswer}
 use Rattle.usim_image.proofs.RoundTrips.{round-trips}
-use Rattle.card_answers.specs.Answers.{answered}
+use Rattle.card_answers.specs.Answers.{Lent, isLent, answered}
 
 module _ (card : Usim) (rand autn : Octets) where
   abbrev due : UsimAnswer
@@ -54,3 +56,11 @@ pub held : (x : Octets) (r : Read) → r ≡ readAnswer 5 sets x → r .refusal 
 held x r e none =
     let sound = round-trips .sound x (sym (ap (λ (y : Read). y .refusal) e) ∙ none) in
     (sound .0, ap (λ (y : Read). validUsim 5 sets (y .usim)) e ∙ sound .1)
+
+-- buffers that pass the test have their lengths
+pub lengths : (res ck ik auts : Octets) → isLent res ck ik auts ≡ true → Lent res ck ik auts
+lengths res ck ik auts e =
+    let four = and-eq-true-iff (eqb (length res) 8 && eqb (length ck) 16 && eqb (length ik) 16) (eqb (length auts) 14) .0 e in
+    let three = and-eq-true-iff (eqb (length res) 8 && eqb (length ck) 16) (eqb (length ik) 16) .0 (four .0) in
+    let two = and-eq-true-iff (eqb (length res) 8) (eqb (length ck) 16) .0 (three .0) in
+    (eqb-true (length res) 8 (two .0), eqb-true (length ck) 16 (two .1), eqb-true (length ik) 16 (three .1), eqb-true (length auts) 14 (four .1))

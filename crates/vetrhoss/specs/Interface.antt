@@ -8,7 +8,7 @@ use Rattle.octets.specs.Octets.{Octets}
 use Rattle.aes.specs.Cipher.{aes}
 use Rattle.opc.specs.Opc.{opc}
 use Rattle.functions.specs.Sets.{sets}
-use Rattle.aka.specs.Layout.{keySize, amfSize, resSize, ckSize, ikSize, autsSize, vectorSize, isPlace}
+use Rattle.aka.specs.Layout.{keySize, amfSize, vectorSize, isPlace}
 use Rattle.aka.specs.Functions.{Keys}
 use Rattle.aka.specs.Usim.{Usim, newUsim, challenge}
 use Rattle.aka.specs.Auc.{Auc, AucAnswer, newAuc, order, resync}
@@ -16,7 +16,7 @@ use Rattle.usim_record.specs.Views.{sqnDue}
 use Rattle.usim_image.specs.Image as usim
 use Rattle.auc_image.specs.Image as auc
 use Rattle.interface_parts.specs.Results.{resultOf, unreadResult}
-use Rattle.card_answers.specs.Answers.{Challenged, untouched, answered}
+use Rattle.card_answers.specs.Answers.{Challenged, isLent, untouched, answered}
 use Rattle.centre_answers.specs.Answers.{Batched, settled}
 
 abbrev has : (size : ℕ) → Octets → Bool
@@ -59,7 +59,7 @@ challengeCall image rand autn res ck ik auts =
     let card = held .usim in
     let answer = challenge 5 sets card rand autn in
     cond (not (eqb (held .refusal) 0)) (untouched (held .refusal) image res ck ik auts)
-    (cond (not (has resSize res && has ckSize ck && has ikSize ik && has autsSize auts)) (untouched 3 image res ck ik auts)
+    (cond (not (isLent res ck ik auts)) (untouched 3 image res ck ik auts)
     (answered image res ck ik auts answer (sqnDue (answer .verdict) card rand autn)))
 
 -- ---- the centre

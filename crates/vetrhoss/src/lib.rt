@@ -86,16 +86,7 @@ pub extern "C" fn vetrhoss_challenge(
     if held.refusal != 0 {
         return held.refusal as u64;
     }
-    if res.len() != 8 {
-        return 3;
-    }
-    if ck.len() != 16 {
-        return 3;
-    }
-    if ik.len() != 16 {
-        return 3;
-    }
-    if auts.len() != 14 {
+    if !card_answers::is_lent(res, ck, ik, auts) {
         return 3;
     }
     let a = usim::challenge(usim, rand, autn);

@@ -115,7 +115,7 @@ pub fn with_auts(vlr: Vlr, auts: &[u8]) -> Reply
         vlr: moved(State::Resyncing, vlr),
         rand: held_vectors::sixteen(out, RAND),
         autn: [0; 16],
-        auts: held_vectors::auts(auts),
+        auts: octets::fourteen(auts),
         ck: [0; 16],
         ik: [0; 16],
     }

@@ -1,6 +1,6 @@
 -- `answer` goes by the verdict. Assumes nothing.
 use Prim.Native.Nat.{ℕ, _<_, _^_}
-use mathlib.Core.Path.{_≡_, refl}
+use mathlib.Core.Path.{_≡_, refl, _∙_}
 use native.Mathlib.Omega.{arith}
 use Rattle.octets.specs.Octets.{Octets}
 use Rattle.usim_record.specs.declared.Verdict.{Verdict}
@@ -11,25 +11,24 @@ use borrow.Author.Needs.{needs}
 use Rattle.card_answers.proofs.answer.Statement.{statement}
 use Rattle.card_answers.proofs.answer.Tie as tie
 
-alike : (r r′ : ℕ) {i i′ x x′ c c′ k k′ s s′ : Octets} → r ≡ r′ → i ≡ i′ → (x ≡ x′) × (c ≡ c′) × (k ≡ k′) × (s ≡ s′)
+alike : {r : ℕ} (number r′ : ℕ) {i i′ x x′ c c′ k k′ s s′ : Octets} → number ≡ r′ → i ≡ i′ → (r ≡ number) × (x ≡ x′) × (c ≡ c′) × (k ≡ k′) × (s ≡ s′)
     → untouched r i x c k s ≡ untouched r′ i′ x′ c′ k′ s′
-alike r r′ e i g = rw (e, i, g .0, g .1, g .2, g .3) refl
+alike number r′ e i g = rw (g .0, e, i, g .1, g .2, g .3, g .4) refl
 
 fits : {v : Verdict} {sqn : ℕ} → v ≡ Accepted sqn → sqnGiven v < 2 ^ 48 → sqn < 2 ^ 48
 fits e h = rw e at h
 
-mul-result : tie.Need-mul-result
-mul-result c =
-    let kept = c .before .before .before .before .before .before .before .before .before .before .before .before .before .before .before in
-    let told = kept .before .before .before in
-    let start = told .before .before .before .before .before .before .before .before .before .before .before .before in
+mul-give : tie.Need-mul-give
+mul-give c =
+    let told = c .before .before .before .before .before .before in
+    let start = told .before .before .before .before .before .before .before in
     omega (arith, fits (told .verdict .given .1) (start .pre .0 .1))
 
 returns : tie.Need-returns
 returns c =
     let given = c .before .before .before .before .before .before .before .before in
     let kept = given .before .before .before .before .before .before .before in
-    rw (kept .before .before .before .verdict .given .1) (alike _ _ (omega arith) (kept .keep-usim .ensures) (given .give .ensures))
+    rw (kept .before .before .before .before .verdict .given .1) (alike _ _ (omega arith) (kept .keep-usim .ensures) (given .give .ensures))
 
 returns-2 : tie.Need-returns-2
 returns-2 c =
@@ -48,7 +47,7 @@ pub answer-spec : {M : Type 1} → statement M
 answer-spec =
     tie.close
     (tie.spec
-    (λ c. search needs) (λ c κs. search needs) (λ c κs. search needs) mul-result (λ c. search needs) (λ c κs. search needs)
+    (λ c. search needs) (λ c κs. search needs) mul-give (λ c κs. search needs) (λ c. search needs) (λ c κs. search needs)
     (λ c. search needs) (λ c κs. search needs) (λ c. search needs) (λ c. search needs)
     (λ c. search needs) (λ c. search needs) (λ c. search needs) (λ c. search needs) (λ c. search needs) returns
     (λ c. search needs) (λ c. search needs) (λ c. search needs) (λ c. search needs) returns-2

@@ -2,7 +2,7 @@
 use Prim.Native.Nat.{_*_}
 use mathlib.Core.Path.{ap, _∙_}
 use Rattle.aka.specs.Vlr.{allZero}
-use Rattle.held_vectors.proofs.Copies.{rest}
+use Rattle.octets.proofs.Copies.{rest}
 use borrow.Author.Needs.{needs}
 use Rattle.held_vectors.proofs.is_unused.Statement.{statement}
 use Rattle.held_vectors.proofs.is_unused.Tie as tie

@@ -4,7 +4,7 @@ use native.Mathlib.Omega.{arith}
 use lib.ListN.{take}
 use lib.Seq.{length-take-le}
 use Rattle.octets.specs.Octets.{zeros}
-use Rattle.held_vectors.proofs.Copies.{copied-whole}
+use Rattle.octets.proofs.Copies.{copied-whole}
 use borrow.Author.Needs.{needs}
 use Rattle.held_vectors.proofs.oldest.Statement.{statement}
 use Rattle.held_vectors.proofs.oldest.Tie as tie

@@ -1,7 +1,7 @@
 -- `with_batch` puts the batch behind the vectors held. Assumes nothing.
 use Prim.Native.Nat.{_*_}
 use native.Mathlib.Omega.{arith}
-use Rattle.held_vectors.proofs.Copies.{copied-at}
+use Rattle.octets.proofs.Copies.{copied-at}
 use borrow.Author.Needs.{needs}
 use Rattle.held_vectors.proofs.with_batch.Statement.{statement}
 use Rattle.held_vectors.proofs.with_batch.Tie as tie

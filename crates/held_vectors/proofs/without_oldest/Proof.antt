@@ -2,7 +2,7 @@
 use native.Mathlib.Omega.{arith}
 use lib.ListN.{take, drop, length-drop}
 use Rattle.octets.specs.Octets.{zeros}
-use Rattle.held_vectors.proofs.Copies.{copied, rest}
+use Rattle.octets.proofs.Copies.{copied, rest}
 use borrow.Author.Needs.{needs}
 use Rattle.held_vectors.proofs.without_oldest.Statement.{statement}
 use Rattle.held_vectors.proofs.without_oldest.Tie as tie

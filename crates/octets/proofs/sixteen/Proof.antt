@@ -1,19 +1,15 @@
 -- `sixteen` has the octets lent. Assumes nothing.
-use Rattle.octets.proofs.Strings.{listed-all}
+use mathlib.Core.Path.{refl}
+use Rattle.octets.specs.Octets.{zeros}
+use Rattle.octets.proofs.Copies.{copied-whole}
 use borrow.Author.Needs.{needs}
 use Rattle.octets.proofs.sixteen.Statement.{statement}
 use Rattle.octets.proofs.sixteen.Tie as tie
 
 returns : tie.Need-returns
 returns c =
-    let start = c .before .before .before .before .before .before .before .before .before .before .before .before .before .before .before .before in
-    listed-all (start .args .s .now) 16 (start .pre)
+    let entry = c .before .before .before .before in
+    copied-whole (entry .args .s .now) (zeros 16) (c .before .copy .ensures .1) refl (entry .pre)
 
 pub sixteen-spec : {M : Type 1} → statement M
-sixteen-spec =
-    tie.close
-    (tie.spec
-    (λ c. search needs) (λ c. search needs) (λ c. search needs) (λ c. search needs) (λ c. search needs)
-    (λ c. search needs) (λ c. search needs) (λ c. search needs) (λ c. search needs) (λ c. search needs)
-    (λ c. search needs) (λ c. search needs) (λ c. search needs) (λ c. search needs) (λ c. search needs)
-    (λ c. search needs) returns)
+sixteen-spec = tie.close (tie.spec (λ c. search needs) (λ c κs. search needs) returns)

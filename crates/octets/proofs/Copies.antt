@@ -6,7 +6,8 @@ use native.Mathlib.Omega.{arith}
 use borrow.Rule.Slice.PartMut.{putMid, post-is}
 use lib.ListN.{length, take, drop, length-drop, drop-of-length-le}
 use lib.Seq.{take-all, take-length, drop-length, drop-drop}
-use Rattle.octets.specs.Octets.{Octets}
+use Rattle.octets.specs.Octets.{Octets, part}
+use Rattle.octets.proofs.Parts.{length-part}
 
 -- copied to the front of d
 pub copied : (s d : Octets) {x t : Octets} (n : ℕ) → t ≡ take (length s) s ++ drop (length s) d → s ≡ x → length x ≡ n
@@ -37,3 +38,11 @@ copied-at s d at size {t} is e h =
       drop-drop (length s) at d,
     )
     (sym (append-assoc (take at d) s (drop (at + length s) d)))
+
+-- a part of x copied to the whole of d
+pub copied-part : (x d : Octets) (at n : ℕ) {t : Octets}
+    → t ≡ take (length (take (at + n - at) (drop at x))) (take (at + n - at) (drop at x)) ++ drop (length (take (at + n - at) (drop at x))) d
+    → length d ≡ n → at + n ≤ length x → t ≡ part at n x
+copied-part x d at n e size h =
+    let same : at + n - at ≡ n = omega arith in
+    copied-whole (take (at + n - at) (drop at x)) d e (ap (λ (k : ℕ). part at k x) same) (length-part at n x h ∙ sym size)
