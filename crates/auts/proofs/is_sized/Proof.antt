@@ -5,10 +5,10 @@ use Rattle.auts.proofs.is_sized.Statement.{statement}
 use Rattle.auts.proofs.is_sized.Tie as tie
 
 returns : tie.Need-returns
-returns c = rw (ne-eqb _ _ (c .if1 .taken)) refl
+returns c = rw (ne-eqb _ 16 (c .if1 .taken)) refl
 
 returns-2 : tie.Need-returns-2
-returns-2 c = rw (eq-eqb _ _ (c .if1 .left)) refl
+returns-2 c = rw (eq-eqb _ 16 (c .if1 .left)) refl
 
 pub is-sized-spec : {M : Type 1} → statement M
 is-sized-spec =

@@ -1,5 +1,6 @@
 -- `is_fresh` is `fresh`. Assumes nothing.
 use mathlib.Core.Path.{refl}
+use lib.ListN.{getD}
 use borrow.Author.Tests.{le-ltb, lt-ltb}
 use Rattle.aka.specs.Usim.{fresh}
 use borrow.Author.Needs.{needs}
@@ -8,7 +9,9 @@ use Rattle.places.proofs.is_fresh.Tie as tie
 
 returns : tie.Need-returns
 unfolding fresh
-returns c = rw (le-ltb _ _ (c .if1 .taken))
+returns c =
+    let args = c .before .before .args in
+    rw (le-ltb (getD (args .t1) (args .ind) 0) (args .seq) (c .if1 .taken))
 
 returns-2 : tie.Need-returns-2
 unfolding fresh
