@@ -18,7 +18,7 @@ pub struct Pair {
 }
 
 // Whether two strings of one length are the same. It ends at the first difference: RANDs are no secret.
-pub fn same(x: &[u8], y: &[u8]) -> bool
+fn same(x: &[u8], y: &[u8]) -> bool
     requires { ⌜ length (now x) ≡ length (now y) ⌝ }
     ensures { λ r. ⌜ r ≡ equal (now (x .entry)) (now (y .entry)) ⌝ }
 {
@@ -33,7 +33,7 @@ pub fn same(x: &[u8], y: &[u8]) -> bool
 }
 
 // Whether the RANDs at places i and j are equal.
-pub fn alike(rands: &[u8], i: u8, j: u8) -> bool
+fn alike(rands: &[u8], i: u8, j: u8) -> bool
     requires { ⌜ (16 * i + 16 ≤ length (now rands)) × (16 * j + 16 ≤ length (now rands)) ⌝ }
     ensures { λ r. ⌜ r ≡ equal (randAt (now (rands .entry)) i) (randAt (now (rands .entry)) j) ⌝ }
 {

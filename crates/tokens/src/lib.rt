@@ -17,7 +17,7 @@ pub fn same(x: [u8; 8], y: [u8; 8]) -> bool
     differences == 0
 }
 
-pub fn xor6(x: [u8; 6], y: [u8; 6]) -> [u8; 6]
+fn xor6(x: [u8; 6], y: [u8; 6]) -> [u8; 6]
     ensures { λ r. ⌜ r ≡ xor x y ⌝ }
 {
     [
