@@ -14,7 +14,7 @@ ghost use Rattle.aka.specs.Sequence.{limit};
 ghost use Rattle.aka.specs.Auc.{inRange, sqnMsIn, macSRight};
 
 // The largest jump.
-const D: u64 = 268435456;
+const D: u64 = aka::D;
 
 // Whether SEQ_HE is at least SEQ_MS and no number of the batch passes SEQ_MS + D.
 pub fn in_range(seqhe: u64, seqms: u64, n: u8) -> bool

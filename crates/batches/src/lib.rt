@@ -14,7 +14,7 @@ ghost use Rattle.aka.specs.Auc.{vectorFrom, batchFrom};
 ghost use Rattle.batches.specs.Views.{countedBy};
 
 // The octets of a vector.
-const SIZE: usize = 72;
+const SIZE: usize = aka::VECTOR;
 
 // What the vectors of a batch are made with: `start` is the SEQ before the first, `next` the index of all.
 pub struct Series {

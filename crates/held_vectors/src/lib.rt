@@ -8,7 +8,7 @@ ghost use Rattle.aka.specs.Layout.{readVector};
 ghost use Rattle.aka.specs.Vlr.{allZero, mostHeld, placeSize};
 
 // The octets of a place.
-const SIZE: usize = 72;
+const SIZE: usize = aka::VECTOR;
 
 // Where XRES begins in a vector, and where it ends.
 const XRES: usize = 16;

@@ -5,10 +5,10 @@ ghost use Rattle.aka.specs.Sequence.{limit, sqnOf};
 ghost use Rattle.aka.specs.Usim.{allWithin, fresh, highest as highestOf, lowestIndex};
 
 // The largest SEQ.
-const LIMIT: u64 = 8796093022207;
+const LIMIT: u64 = aka::LIMIT;
 
 // The largest jump.
-const D: u64 = 268435456;
+const D: u64 = aka::D;
 
 // Whether no place is above the limit.
 pub fn within(places: [u64; 32]) -> bool

@@ -22,14 +22,14 @@ unfolding allWithin
 returns c =
     let l = c .before .before in
     let places = l .before .args .t1 in
-    sym (l .loop .inv .1 ∙ rw (drop-next places (l .loop .i) (omega arith), lt-leb _ _ (c .if1 .taken)))
+    sym (l .loop .inv .1 ∙ rw (drop-next places (l .loop .i) (omega arith), lt-leb _ (limit 5) (c .if1 .taken)))
 
 loop-again : tie.Need-loop-again Inv-loop μ-loop
 unfolding allWithin
 loop-again c =
     let l = c .before .before in
     let places = l .before .args .t1 in
-    (omega arith, l .loop .inv .1 ∙ rw (drop-next places (l .loop .i) (omega arith), le-leb _ _ (c .if1 .left)))
+    (omega arith, l .loop .inv .1 ∙ rw (drop-next places (l .loop .i) (omega arith), le-leb _ (limit 5) (c .if1 .left)))
 
 returns-2 : tie.Need-returns-2 Inv-loop μ-loop
 unfolding allWithin
