@@ -1,174 +1,337 @@
-// Reading the fields of a call's line, and putting those of its answer.
+// Reading the line of a call by its form, and putting its answer.
+ghost use Prim.Native.Nat.{_<_, _≤_};
+use fields::Number;
 use functions::Keys;
 
-// A field of a line from `start` up to `end`; whether another follows, and where. `ok` is false where there is none.
-pub struct Field {
-    pub ok: bool,
-    pub start: usize,
-    pub end: usize,
-    pub more: bool,
-    pub next: usize,
+// ---- the line
+
+// A call. `word` counts its word among those that are known, from 1; it is 0 where the line is no call of theirs. For each field there is where
+// it starts in the line, and its number or how many octets it has. The octets stand in the store from the same place. The line is read up to `at`.
+pub struct Call {
+    pub word: u64,
+    pub starts: [usize; 40],
+    pub values: [u64; 40],
+    pub at: usize,
 }
 
-// How many octets a field has; `ok` is false where it is not one of octets.
-pub struct Count {
-    pub ok: bool,
+// A field up to `end`; `ok` is false where it is not of its kind.
+pub struct Field {
+    ok: bool,
+    start: usize,
+    value: u64,
+    end: usize,
+}
+
+// A word that is known, and where its form stands.
+pub struct Entry {
+    word: u64,
+    start: usize,
+    end: usize,
+}
+
+fn no_call() -> Call {
+    Call {
+        word: 0,
+        starts: [0; 40],
+        values: [0; 40],
+        at: 0,
+    }
+}
+
+// The bytes from `start` up to `end`; none, where there are no such.
+fn slice<'a>(bytes: &'a [u8], start: usize, end: usize) -> &'a [u8] {
+    if end < start {
+        return &bytes[..0];
+    }
+    if bytes.len() < end {
+        return &bytes[..0];
+    }
+    &bytes[start..end]
+}
+
+// Whether the entry at `at` is that of a word.
+fn is_entry(words: &[u8], at: usize, word: &[u8]) -> bool {
+    let rest = slice(words, at, words.len());
+    let size = word.len();
+    if rest.len() <= size {
+        return false;
+    }
+    rest[size] == b':' && fields::begins(rest, word)
+}
+
+// Finds a word among entries with a space between, each a word, a colon and a form.
+fn find(words: &[u8], word: &[u8]) -> Entry {
+    let mut number = 0;
+    let mut at = 0;
+    while at < words.len() {
+        let end = fields::field_end(words, at);
+        number += 1;
+        if is_entry(words, at, word) {
+            return Entry {
+                word: number,
+                start: at + word.len() + 1,
+                end,
+            };
+        }
+        at = end + 1;
+    }
+    Entry {
+        word: 0,
+        start: 0,
+        end: 0,
+    }
+}
+
+// A form has a letter for each field, a small one for a number and a capital one for octets. Whether the number, or how many octets
+// there are, is right for the letter. `n` is any number, and `O` any octets.
+fn fits(kind: u8, n: u64) -> bool {
+    match kind {
+        b's' => n <= 2,
+        b'b' => n <= 255,
+        b'l' => n <= 512,
+        b'A' => n == 2,
+        b'K' => n == 16,
+        b'V' => n == 72,
+        b'P' => n <= 1152,
+        _ => true,
+    }
+}
+
+// Reads octets in hex to the front of `out`; `-` stands for none. The value is how many there are.
+fn octets(text: &[u8], out: &mut [u8]) -> Number {
+    let size = text.len() / 2;
+    if size == 0 {
+        return Number {
+            ok: fields::begins(text, b"-"),
+            value: 0,
+        };
+    }
+    if out.len() < size {
+        return Number {
+            ok: false,
+            value: 0,
+        };
+    }
+    Number {
+        ok: hex::read(text, &mut out[0..size]),
+        value: size as u64,
+    }
+}
+
+fn read_value(kind: u8, text: &[u8], out: &mut [u8]) -> Number {
+    if kind < b'a' {
+        return octets(text, out);
+    }
+    fields::read_number(text)
+}
+
+// Reads the field behind the space at `at`. The store is as long as the longest line that is read.
+fn read_field(kind: u8, line: &[u8], at: usize, store: &mut [u8]) -> Field {
+    if line.len() <= at {
+        return no_field();
+    }
+    if store.len() < line.len() {
+        return no_field();
+    }
+    let start = at + 1;
+    let end = fields::field_end(line, start);
+    let n = read_value(kind, slice(line, start, end), &mut store[start..end]);
+    Field {
+        ok: n.ok && fits(kind, n.value),
+        start,
+        value: n.value,
+        end,
+    }
+}
+
+fn no_field() -> Field {
+    Field {
+        ok: false,
+        start: 0,
+        value: 0,
+        end: 0,
+    }
+}
+
+// Adds field `i` to a call.
+fn added(c: Call, i: usize, f: Field) -> Call {
+    if 40 <= i {
+        return no_call();
+    }
+    if !f.ok {
+        return no_call();
+    }
+    let mut starts = c.starts;
+    let mut values = c.values;
+    starts[i] = f.start;
+    values[i] = f.value;
+    Call {
+        word: c.word,
+        starts,
+        values,
+        at: f.end,
+    }
+}
+
+// Reads the fields, one for each letter of the form.
+fn read_fields(call: Call, form: &[u8], line: &[u8], store: &mut [u8]) -> Call {
+    let mut c = call;
+    let mut i = 0;
+    while i < form.len() {
+        let next = added(c, i, read_field(form[i], line, c.at, store));
+        c = next;
+        i += 1;
+    }
+    c
+}
+
+// The call of a line. The words that are known are entries with a space between, each a word, a colon and its form.
+pub fn read(words: &[u8], line: &[u8], store: &mut [u8]) -> Call {
+    let end = fields::field_end(line, 0);
+    let entry = find(words, console::front(line, end));
+    let mut c = no_call();
+    c.word = entry.word;
+    c.at = end;
+    let c = read_fields(c, slice(words, entry.start, entry.end), line, store);
+    if c.at != line.len() {
+        return no_call();
+    }
+    c
+}
+
+// ---- the fields
+
+// The number of field `i`.
+pub fn number(c: Call, i: usize) -> u64
+    requires { ⌜ i < 40 ⌝ }
+{
+    let values = c.values;
+    values[i]
+}
+
+// The number of field `i`, one of at most 255.
+pub fn octet(c: Call, i: usize) -> u8
+    requires { ⌜ i < 40 ⌝ }
+{
+    (number(c, i) % 256) as u8
+}
+
+// The number of field `i`, the length of a buffer that is lent.
+pub fn length(c: Call, i: usize) -> usize
+    requires { ⌜ i < 40 ⌝ }
+    ensures { λ r. ⌜ r ≤ 512 ⌝ }
+{
+    (number(c, i) % 513) as usize
+}
+
+// The octets of field `i`.
+pub fn part<'a>(c: Call, i: usize, store: &'a [u8]) -> &'a [u8]
+    requires { ⌜ i < 40 ⌝ }
+{
+    let starts = c.starts;
+    let rest = slice(store, starts[i], store.len());
+    console::front(rest, number(c, i) as usize)
+}
+
+// Puts octets into a buffer that has room for them.
+pub fn fill(octets: &[u8], buffer: &mut [u8]) {
+    if octets.len() <= buffer.len() {
+        bytes::copy(octets, buffer);
+    }
+}
+
+fn key(c: Call, i: usize, store: &[u8]) -> [u8; 16]
+    requires { ⌜ i < 40 ⌝ }
+{
+    let mut key = [0u8; 16];
+    fill(part(c, i, store), &mut key);
+    key
+}
+
+// The fields `SET K OPC`, with which the line begins.
+pub fn keys(c: Call, store: &[u8]) -> Keys {
+    Keys {
+        set: octet(c, 0),
+        k: key(c, 1, store),
+        opc: key(c, 2, store),
+    }
+}
+
+// ---- the answer
+
+// The bytes of an answer without its newline: none, where the line is not answered. The longest is that of a node, and has room.
+pub struct Text {
+    pub bytes: [u8; 4096],
     pub size: usize,
 }
 
-// The field at `from`.
-pub fn next_field(line: &[u8], from: usize) -> Field {
-    if line.len() < from {
-        return Field {
-            ok: false,
-            start: 0,
-            end: 0,
-            more: false,
-            next: 0,
-        };
-    }
-    let end = fields::field_end(line, from);
-    Field {
-        ok: true,
-        start: from,
-        end,
-        more: end < line.len(),
-        next: end + 1,
+pub fn no_text() -> Text {
+    Text {
+        bytes: [0; 4096],
+        size: 0,
     }
 }
 
-// The bytes of a field.
-pub fn bytes_of<'a>(line: &'a [u8], f: Field) -> &'a [u8] {
-    let start = f.start;
-    let end = f.end;
-    if end < start {
-        return &line[..0];
+fn put(t: Text, part: &[u8]) -> Text {
+    let mut bytes = t.bytes;
+    let size = console::put(&mut bytes, t.size, part);
+    Text { bytes, size }
+}
+
+pub fn word(word: &[u8]) -> Text {
+    put(no_text(), word)
+}
+
+// Puts a space and a number.
+pub fn put_number(t: Text, n: u64) -> Text {
+    let mut digits = [0u8; 20];
+    let k = io::decimal(n, &mut digits);
+    put(put(t, b" "), &digits[..k])
+}
+
+pub fn numbered(name: &[u8], n: u64) -> Text {
+    put_number(word(name), n)
+}
+
+pub fn refused(number: u8) -> Text {
+    numbered(b"refused", number as u64)
+}
+
+// Writes octets in hex behind the first byte of a buffer that has room for them, and returns where they end.
+fn write_hex(octets: &[u8], out: &mut [u8]) -> usize {
+    if out.len() / 2 <= octets.len() {
+        return 0;
     }
-    if line.len() < end {
-        return &line[..0];
+    let end = 2 * octets.len() + 1;
+    hex::write(octets, &mut out[1..end]);
+    end
+}
+
+// Puts a space and octets in hex; `-` stands for none.
+pub fn put_octets(t: Text, octets: &[u8]) -> Text {
+    if octets.len() == 0 {
+        return put(t, b" -");
     }
-    &line[start..end]
+    let mut text = [b' '; 4096];
+    let end = write_hex(octets, &mut text);
+    put(t, console::front(&text, end))
 }
 
-// Reads octets in hex to the front of `out`; `-` stands for none.
-pub fn octets(text: &[u8], out: &mut [u8]) -> Count {
-    if text.len() == 1 {
-        return Count {
-            ok: text[0] == b'-',
-            size: 0,
-        };
+pub fn put_pair(t: Text, a: [u8; 16], b: [u8; 16]) -> Text {
+    put_octets(put_octets(t, &a), &b)
+}
+
+// Begins with a word and the keys of a record.
+pub fn put_keys(word: &[u8], keys: Keys) -> Text {
+    let k = keys.k;
+    let opc = keys.opc;
+    put_pair(numbered(word, keys.set as u64), k, opc)
+}
+
+// The image that was written to the front of a buffer, or the refusal.
+pub fn image(refusal: u8, buffer: [u8; 512], size: usize) -> Text {
+    if refusal != 0 {
+        return refused(refusal);
     }
-    let size = text.len() / 2;
-    if size == 0 {
-        return Count { ok: false, size: 0 };
-    }
-    if out.len() < size {
-        return Count { ok: false, size: 0 };
-    }
-    let ok = hex::read(text, &mut out[..size]);
-    Count { ok, size }
-}
-
-pub fn bad_line(out: &mut [u8], used: usize) -> usize {
-    console::put(out, used, b"bad line\n")
-}
-
-pub fn put_number(n: u64, out: &mut [u8], used: usize) -> usize {
-    let mut text = [0u8; 20];
-    let k = io::decimal(n, &mut text);
-    console::put(out, used, &text[..k])
-}
-
-pub fn refused(number: u8, out: &mut [u8], used: usize) -> usize {
-    let n = console::put(out, used, b"refused ");
-    let n = put_number(number as u64, out, n);
-    console::put(out, n, b"\n")
-}
-
-fn put_octet(x: u8, out: &mut [u8], used: usize) -> usize {
-    let mut text = [0u8; 2];
-    hex::write(&[x], &mut text);
-    console::put(out, used, &text)
-}
-
-// Puts a space and octets in hex.
-pub fn put_field(x: &[u8], out: &mut [u8], used: usize) -> usize {
-    let mut n = console::put(out, used, b" ");
-    let mut i = 0;
-    while i < x.len() {
-        n = put_octet(x[i], out, n);
-        i += 1;
-    }
-    n
-}
-
-// The keys of a line; `ok` is false where a field is not one of a set, K and OPc.
-pub struct KeysRead {
-    pub ok: bool,
-    pub keys: Keys,
-}
-
-pub fn keys(set: &[u8], k: &[u8], opc: &[u8]) -> KeysRead {
-    let mut a = [0u8; 16];
-    let mut b = [0u8; 16];
-    let number = fields::read_number(set);
-    let k_ok = hex::read(k, &mut a);
-    let opc_ok = hex::read(opc, &mut b);
-    if 255 < number.value {
-        return KeysRead {
-            ok: false,
-            keys: Keys {
-                set: 0,
-                k: a,
-                opc: b,
-            },
-        };
-    }
-    KeysRead {
-        ok: number.ok && k_ok && opc_ok,
-        keys: Keys {
-            set: number.value as u8,
-            k: a,
-            opc: b,
-        },
-    }
-}
-
-// The thirty-two places that end a line.
-pub struct PlacesRead {
-    pub ok: bool,
-    pub values: [u64; 32],
-}
-
-// One place, and where the next begins.
-pub struct PlaceRead {
-    ok: bool,
-    value: u64,
-    next: usize,
-}
-
-// The place at `from`: the last one ends the line, and another follows each other one.
-fn place(line: &[u8], from: usize, is_last: bool) -> PlaceRead {
-    let f = next_field(line, from);
-    let n = fields::read_number(bytes_of(line, f));
-    PlaceRead {
-        ok: f.ok && n.ok && f.more != is_last,
-        value: n.value,
-        next: f.next,
-    }
-}
-
-pub fn places(line: &[u8], from: usize) -> PlacesRead {
-    let mut values = [0u64; 32];
-    let mut ok = true;
-    let mut at = from;
-    let mut i = 0;
-    while i < 32 {
-        let p = place(line, at, i == 31);
-        values[i] = p.value;
-        ok = ok && p.ok;
-        at = p.next;
-        i += 1;
-    }
-    PlacesRead { ok, values }
+    put_octets(word(b"image"), console::front(&buffer, size))
 }

@@ -3,79 +3,36 @@
 use vlr::Vlr;
 use vlr_calls::Kept;
 
-// Puts the answer to a line into the output buffer, and keeps the node for the next line.
-fn answer(node: Vlr, line: &[u8], out: &mut [u8], used: usize) -> Kept {
-    if 4096 < line.len() {
-        let n = console::put(out, used, b"bad line\n");
-        return Kept { vlr: node, used: n };
+// The answer to a line, and the node for the next one.
+fn answer(node: Vlr, line: &[u8]) -> Kept {
+    let text = card_calls::answer(line);
+    if text.size != 0 {
+        return Kept { vlr: node, text };
     }
-    if is_of_card(line) {
-        let n = card(line, out, used);
-        return Kept { vlr: node, used: n };
+    let text = auc_calls::answer(line);
+    if text.size != 0 {
+        return Kept { vlr: node, text };
     }
-    if is_of_centre(line) {
-        let n = centre(line, out, used);
-        return Kept { vlr: node, used: n };
-    }
-    vlr_calls::answer(node, line, out, used)
+    vlr_calls::answer(node, line)
 }
 
-// Whether a line begins like a call of the card.
-fn is_of_card(line: &[u8]) -> bool {
-    fields::begins(line, b"challenge ") || fields::begins(line, b"card-")
+// The node after a line, and how many bytes wait in the output buffer.
+struct Turn {
+    node: Vlr,
+    used: usize,
 }
 
-// Whether a line begins like a call of the centre.
-fn is_of_centre(line: &[u8]) -> bool {
-    if fields::begins(line, b"order ") || fields::begins(line, b"resync ") {
-        return true;
+// Puts the answer to a line into the output buffer.
+fn put_answer(node: Vlr, line: &[u8], out: &mut [u8], used: usize) -> Turn {
+    let kept = answer(node, line);
+    let vlr = kept.vlr;
+    let text = kept.text;
+    let bytes = text.bytes;
+    let n = console::put(out, used, console::front(&bytes, text.size));
+    Turn {
+        node: vlr,
+        used: console::put(out, n, b"\n"),
     }
-    fields::begins(line, b"vector ") || fields::begins(line, b"auc-")
-}
-
-// The calls of the centre.
-fn centre(line: &[u8], out: &mut [u8], used: usize) -> usize {
-    if fields::begins(line, b"order ") {
-        return auc_calls::order(line, out, used);
-    }
-    if fields::begins(line, b"resync ") {
-        return auc_calls::resync(line, out, used);
-    }
-    if fields::begins(line, b"vector ") {
-        return auc_calls::vector(line, out, used);
-    }
-    auc_record(line, out, used)
-}
-
-// The calls on the centre's image.
-fn auc_record(line: &[u8], out: &mut [u8], used: usize) -> usize {
-    if fields::begins(line, b"auc-new ") {
-        return auc_calls::new(line, out, used);
-    }
-    if fields::begins(line, b"auc-read ") {
-        return auc_calls::read(line, out, used);
-    }
-    if fields::begins(line, b"auc-write ") {
-        return auc_calls::write(line, out, used);
-    }
-    console::put(out, used, b"bad line\n")
-}
-
-// The calls of the card.
-fn card(line: &[u8], out: &mut [u8], used: usize) -> usize {
-    if fields::begins(line, b"challenge ") {
-        return card_calls::challenge(line, out, used);
-    }
-    if fields::begins(line, b"card-new ") {
-        return card_calls::new(line, out, used);
-    }
-    if fields::begins(line, b"card-read ") {
-        return card_calls::read(line, out, used);
-    }
-    if fields::begins(line, b"card-write ") {
-        return card_calls::write(line, out, used);
-    }
-    console::put(out, used, b"bad line\n")
 }
 
 // Answers every line of the input. A proved loop has to end, so this one counts its turns down, from a number that no run uses up.
@@ -88,9 +45,9 @@ fn answer_all(piece: &mut [u8], line: &mut [u8], out: &mut [u8]) {
         if !input.ready {
             return;
         }
-        let kept = answer(node, console::front(line, input.held), out, input.used);
-        node = kept.vlr;
-        input.used = kept.used;
+        let next = put_answer(node, console::front(line, input.held), out, input.used);
+        node = next.node;
+        input.used = next.used;
         turns -= 1;
     }
 }

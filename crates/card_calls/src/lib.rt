@@ -1,201 +1,110 @@
 // The calls of the card.
+use call_parts::Call;
+use call_parts::Text;
 use usim::Usim;
 use usim::Verdict;
 
-// `challenge IMAGE RAND AUTN`.
-pub fn challenge(line: &[u8], out: &mut [u8], used: usize) -> usize {
-    let image = call_parts::next_field(line, 10);
-    let rand = call_parts::next_field(line, image.next);
-    let autn = call_parts::next_field(line, rand.next);
-    if !image.more || !rand.more || !autn.ok || autn.more {
-        return call_parts::bad_line(out, used);
+// The answer to a line; no text where it is no call of the card.
+pub fn answer(line: &[u8]) -> Text {
+    let mut store = [0u8; 4096];
+    let c = call_parts::read(
+        b"card-new:bKK card-write:bKKlnnnnnnnnnnnnnnnnnnnnnnnnnnnnnnnn card-read:O challenge:OOO",
+        line,
+        &mut store,
+    );
+    call(c, &store)
+}
+
+fn call(c: Call, store: &[u8]) -> Text {
+    let word = c.word;
+    match word {
+        0 => call_parts::no_text(),
+        1 => write(usim::new(call_parts::keys(c, store)), 205),
+        2 => write(record(c, store), call_parts::length(c, 3)),
+        _ => with_image(c, store),
     }
-    challenge_with(
-        call_parts::bytes_of(line, image),
-        call_parts::bytes_of(line, rand),
-        call_parts::bytes_of(line, autn),
-        out,
-        used,
-    )
-}
-
-fn challenge_with(image: &[u8], rand: &[u8], autn: &[u8], out: &mut [u8], used: usize) -> usize {
-    let mut a = [0u8; 2048];
-    let mut b = [0u8; 2048];
-    let mut c = [0u8; 2048];
-    let i = call_parts::octets(image, &mut a);
-    let r = call_parts::octets(rand, &mut b);
-    let t = call_parts::octets(autn, &mut c);
-    if !i.ok || !r.ok || !t.ok {
-        return call_parts::bad_line(out, used);
-    }
-    answer(
-        console::front(&a, i.size),
-        console::front(&b, r.size),
-        console::front(&c, t.size),
-        out,
-        used,
-    )
-}
-
-fn answer(image: &[u8], rand: &[u8], autn: &[u8], out: &mut [u8], used: usize) -> usize {
-    let card = usim_image::read(image);
-    if card.refusal != 0 {
-        return call_parts::refused(card.refusal, out, used);
-    }
-    let usim = card.usim;
-    let a = usim::challenge(usim, rand, autn);
-    let verdict = a.verdict;
-    let auts = a.auts;
-    match verdict {
-        Verdict::Accepted(sqn) => accepted(sqn, a, out, used),
-        Verdict::Sync => sync(auts, out, used),
-        Verdict::Mac => console::put(out, used, b"mac\n"),
-        Verdict::Refused(number) => call_parts::refused(number, out, used),
-    }
-}
-
-fn accepted(sqn: u64, a: usim::Answer, out: &mut [u8], used: usize) -> usize {
-    let res = a.res;
-    let ck = a.ck;
-    let ik = a.ik;
-    let n = console::put(out, used, b"accepted ");
-    let n = call_parts::put_number(sqn, out, n);
-    let n = call_parts::put_field(&res, out, n);
-    let n = put_keys(ck, ik, out, n);
-    let next = a.usim;
-    put_image(next, out, n)
-}
-
-fn put_keys(ck: [u8; 16], ik: [u8; 16], out: &mut [u8], used: usize) -> usize {
-    let n = call_parts::put_field(&ck, out, used);
-    call_parts::put_field(&ik, out, n)
-}
-
-// The image of a record that an acceptance returned, which ends the line.
-fn put_image(usim: Usim, out: &mut [u8], used: usize) -> usize {
-    let mut image = [0u8; 205];
-    usim_image::write(usim, &mut image);
-    let n = call_parts::put_field(&image, out, used);
-    console::put(out, n, b"\n")
-}
-
-fn sync(auts: [u8; 14], out: &mut [u8], used: usize) -> usize {
-    let n = console::put(out, used, b"sync");
-    let n = call_parts::put_field(&auts, out, n);
-    console::put(out, n, b"\n")
-}
-
-// `card-read IMAGE`.
-pub fn read(line: &[u8], out: &mut [u8], used: usize) -> usize {
-    let f = call_parts::next_field(line, 10);
-    if f.more {
-        return call_parts::bad_line(out, used);
-    }
-    let mut bytes = [0u8; 2048];
-    let image = call_parts::octets(call_parts::bytes_of(line, f), &mut bytes);
-    if !image.ok {
-        return call_parts::bad_line(out, used);
-    }
-    let card = usim_image::read(console::front(&bytes, image.size));
-    if card.refusal != 0 {
-        return call_parts::refused(card.refusal, out, used);
-    }
-    let usim = card.usim;
-    put_card(usim, out, used)
-}
-
-fn put_card(card: Usim, out: &mut [u8], used: usize) -> usize {
-    let keys = card.keys;
-    let k = keys.k;
-    let opc = keys.opc;
-    let places = card.places;
-    let n = console::put(out, used, b"card ");
-    let n = call_parts::put_number(keys.set as u64, out, n);
-    let n = call_parts::put_field(&k, out, n);
-    let n = call_parts::put_field(&opc, out, n);
-    put_places(&places, out, n)
-}
-
-fn put_place(place: u64, out: &mut [u8], used: usize) -> usize {
-    let n = console::put(out, used, b" ");
-    call_parts::put_number(place, out, n)
-}
-
-// The places, each behind a space, and the end of the line.
-fn put_places(places: &[u64; 32], out: &mut [u8], used: usize) -> usize {
-    let mut n = used;
-    let mut i = 0;
-    while i < 32 {
-        n = put_place(places[i], out, n);
-        i += 1;
-    }
-    console::put(out, n, b"\n")
 }
 
 // `card-write SET K OPC LENGTH P0 P1 .. P31`. LENGTH is that of the buffer lent for the image.
-pub fn write(line: &[u8], out: &mut [u8], used: usize) -> usize {
-    let set = call_parts::next_field(line, 11);
-    let k = call_parts::next_field(line, set.next);
-    let opc = call_parts::next_field(line, k.next);
-    let length = call_parts::next_field(line, opc.next);
-    if !set.more || !k.more || !opc.more || !length.more {
-        return call_parts::bad_line(out, used);
+fn record(c: Call, store: &[u8]) -> Usim {
+    Usim {
+        keys: call_parts::keys(c, store),
+        places: places(c),
     }
-    let places = call_parts::places(line, length.next);
-    let size = fields::read_number(call_parts::bytes_of(line, length));
-    let keys = call_parts::keys(
-        call_parts::bytes_of(line, set),
-        call_parts::bytes_of(line, k),
-        call_parts::bytes_of(line, opc),
-    );
-    if !places.ok || !size.ok || !keys.ok {
-        return call_parts::bad_line(out, used);
+}
+
+fn places(c: Call) -> [u64; 32] {
+    let mut places = [0u64; 32];
+    let mut i = 0;
+    while i < 32 {
+        places[i] = call_parts::number(c, i + 4);
+        i += 1;
     }
-    let values = places.values;
-    let k = keys.keys;
-    let card = Usim {
-        keys: k,
-        places: values,
-    };
-    if 512 < size.value {
-        return call_parts::bad_line(out, used);
-    }
-    let mut bytes = [0u8; 512];
-    write_to(card, &mut bytes, size.value as usize, out, used)
+    places
 }
 
 // Lends the first `size` bytes for the image.
-fn write_to(card: Usim, bytes: &mut [u8], size: usize, out: &mut [u8], used: usize) -> usize {
-    if bytes.len() < size {
-        return call_parts::bad_line(out, used);
+fn write(card: Usim, size: usize) -> Text {
+    let mut buffer = [0u8; 512];
+    if 512 < size {
+        return call_parts::no_text();
     }
-    let refusal = usim_image::write(card, &mut bytes[..size]);
-    if refusal != 0 {
-        return call_parts::refused(refusal, out, used);
-    }
-    let n = console::put(out, used, b"image");
-    let n = call_parts::put_field(console::front(bytes, size), out, n);
-    console::put(out, n, b"\n")
+    let refusal = usim_image::write(card, &mut buffer[0..size]);
+    call_parts::image(refusal, buffer, size)
 }
 
-// `card-new SET K OPC`.
-pub fn new(line: &[u8], out: &mut [u8], used: usize) -> usize {
-    let set = call_parts::next_field(line, 9);
-    let k = call_parts::next_field(line, set.next);
-    let opc = call_parts::next_field(line, k.next);
-    if !set.more || !k.more || !opc.ok || opc.more {
-        return call_parts::bad_line(out, used);
+// The calls whose first field is an image: `card-read IMAGE` and `challenge IMAGE RAND AUTN`.
+fn with_image(c: Call, store: &[u8]) -> Text {
+    let read = usim_image::read(call_parts::part(c, 0, store));
+    if read.refusal != 0 {
+        return call_parts::refused(read.refusal);
     }
-    let keys = call_parts::keys(
-        call_parts::bytes_of(line, set),
-        call_parts::bytes_of(line, k),
-        call_parts::bytes_of(line, opc),
-    );
-    if !keys.ok {
-        return call_parts::bad_line(out, used);
+    let card = read.usim;
+    if c.word == 3 {
+        return put_card(card);
     }
-    let values = keys.keys;
-    let mut bytes = [0u8; 205];
-    write_to(usim::new(values), &mut bytes, 205, out, used)
+    put_answer(usim::challenge(
+        card,
+        call_parts::part(c, 1, store),
+        call_parts::part(c, 2, store),
+    ))
+}
+
+fn put_card(card: Usim) -> Text {
+    let keys = card.keys;
+    let places = card.places;
+    put_places(call_parts::put_keys(b"card", keys), places)
+}
+
+fn put_places(text: Text, places: [u64; 32]) -> Text {
+    let mut t = text;
+    let mut i = 0;
+    while i < 32 {
+        let next = call_parts::put_number(t, places[i]);
+        t = next;
+        i += 1;
+    }
+    t
+}
+
+fn put_answer(a: usim::Answer) -> Text {
+    let verdict = a.verdict;
+    let auts = a.auts;
+    match verdict {
+        Verdict::Accepted(sqn) => put_accepted(sqn, a),
+        Verdict::Sync => call_parts::put_octets(call_parts::word(b"sync"), &auts),
+        Verdict::Mac => call_parts::word(b"mac"),
+        Verdict::Refused(number) => call_parts::refused(number),
+    }
+}
+
+fn put_accepted(sqn: u64, a: usim::Answer) -> Text {
+    let res = a.res;
+    let ck = a.ck;
+    let ik = a.ik;
+    let next = a.usim;
+    let mut image = [0u8; 205];
+    usim_image::write(next, &mut image);
+    let t = call_parts::put_octets(call_parts::numbered(b"accepted", sqn), &res);
+    call_parts::put_octets(call_parts::put_pair(t, ck, ik), &image)
 }
