@@ -104,27 +104,30 @@ fn resync(auc: Auc, c: Call, store: &[u8]) -> Text {
     put_answer(answer, batch, size)
 }
 
+// The outcome, and behind it the image of the next record and the batch. A refusal gives no vectors.
 fn put_answer(answer: auc::Answer, batch: [u8; 512], size: usize) -> Text {
     let outcome = answer.outcome;
-    let n = answer.n as u64;
-    match outcome {
-        Outcome::Given => put_batch(call_parts::numbered(b"given", n), answer, batch, size),
-        Outcome::Kept => put_batch(call_parts::numbered(b"kept", n), answer, batch, size),
-        Outcome::Reset => put_batch(call_parts::numbered(b"reset", n), answer, batch, size),
-        Outcome::Refused(number) => call_parts::refused(number),
-        Outcome::Repeated(first, second) => put_repeated(first, second),
-    }
-}
-
-// Behind the count of vectors, the image of the next record and the batch.
-fn put_batch(t: Text, answer: auc::Answer, batch: [u8; 512], size: usize) -> Text {
     let next = answer.auc;
+    let t = put_outcome(outcome, answer.n);
+    if answer.n == 0 {
+        return t;
+    }
     let mut image = [0u8; 41];
     auc_image::write(next, &mut image);
     call_parts::put_octets(
         call_parts::put_octets(t, &image),
         console::front(&batch, size),
     )
+}
+
+fn put_outcome(outcome: Outcome, n: u8) -> Text {
+    match outcome {
+        Outcome::Given => call_parts::numbered(b"given", n as u64),
+        Outcome::Kept => call_parts::numbered(b"kept", n as u64),
+        Outcome::Reset => call_parts::numbered(b"reset", n as u64),
+        Outcome::Refused(number) => call_parts::refused(number),
+        Outcome::Repeated(first, second) => put_repeated(first, second),
+    }
 }
 
 // Refusal 4 with its pair.

@@ -5,8 +5,9 @@ use functions::Keys;
 
 // ---- the line
 
-// A call. `word` counts its word among those that are known, from 1; it is 0 where the line is no call of theirs. For each field there is where
-// it starts in the line, and its number or how many octets it has. The octets stand in the store from the same place. The line is read up to `at`.
+// A call. `word` counts its word among those that are known, from 1; it is 0 where the line is no call of theirs. For each field there is
+// where the space before it stands, and its number or how many octets it has. The octets stand in the store from the place of that space.
+// The line is read up to `at`.
 pub struct Call {
     pub word: u64,
     pub starts: [usize; 40],
@@ -17,7 +18,6 @@ pub struct Call {
 // A field up to `end`; `ok` is false where it is not of its kind.
 pub struct Field {
     ok: bool,
-    start: usize,
     value: u64,
     end: usize,
 }
@@ -29,12 +29,13 @@ pub struct Entry {
     end: usize,
 }
 
-fn no_call() -> Call {
+// A call before its fields.
+fn begun(word: u64, at: usize) -> Call {
     Call {
-        word: 0,
+        word,
         starts: [0; 40],
         values: [0; 40],
-        at: 0,
+        at,
     }
 }
 
@@ -56,7 +57,10 @@ fn is_entry(words: &[u8], at: usize, word: &[u8]) -> bool {
     if rest.len() <= size {
         return false;
     }
-    rest[size] == b':' && fields::begins(rest, word)
+    if rest[size] != b':' {
+        return false;
+    }
+    fields::begins(rest, word)
 }
 
 // Finds a word among entries with a space between, each a word, a colon and a form.
@@ -84,15 +88,19 @@ fn find(words: &[u8], word: &[u8]) -> Entry {
 
 // A form has a letter for each field, a small one for a number and a capital one for octets. Whether the number, or how many octets
 // there are, is right for the letter. `n` is any number, and `O` any octets.
-fn fits(kind: u8, n: u64) -> bool {
+fn fits(kind: u8, n: Number) -> bool {
+    if !n.ok {
+        return false;
+    }
+    let size = n.value;
     match kind {
-        b's' => n <= 2,
-        b'b' => n <= 255,
-        b'l' => n <= 512,
-        b'A' => n == 2,
-        b'K' => n == 16,
-        b'V' => n == 72,
-        b'P' => n <= 1152,
+        b's' => size <= 2,
+        b'b' => size <= 255,
+        b'l' => size <= 512,
+        b'A' => size == 2,
+        b'K' => size == 16,
+        b'V' => size == 72,
+        b'P' => size <= 1152,
         _ => true,
     }
 }
@@ -125,6 +133,14 @@ fn read_value(kind: u8, text: &[u8], out: &mut [u8]) -> Number {
     fields::read_number(text)
 }
 
+fn no_field() -> Field {
+    Field {
+        ok: false,
+        value: 0,
+        end: 0,
+    }
+}
+
 // Reads the field behind the space at `at`. The store is as long as the longest line that is read.
 fn read_field(kind: u8, line: &[u8], at: usize, store: &mut [u8]) -> Field {
     if line.len() <= at {
@@ -135,35 +151,25 @@ fn read_field(kind: u8, line: &[u8], at: usize, store: &mut [u8]) -> Field {
     }
     let start = at + 1;
     let end = fields::field_end(line, start);
-    let n = read_value(kind, slice(line, start, end), &mut store[start..end]);
+    let n = read_value(kind, &line[start..end], &mut store[at..end]);
     Field {
-        ok: n.ok && fits(kind, n.value),
-        start,
+        ok: fits(kind, n),
         value: n.value,
         end,
-    }
-}
-
-fn no_field() -> Field {
-    Field {
-        ok: false,
-        start: 0,
-        value: 0,
-        end: 0,
     }
 }
 
 // Adds field `i` to a call.
 fn added(c: Call, i: usize, f: Field) -> Call {
     if 40 <= i {
-        return no_call();
+        return begun(0, 0);
     }
     if !f.ok {
-        return no_call();
+        return begun(0, 0);
     }
     let mut starts = c.starts;
     let mut values = c.values;
-    starts[i] = f.start;
+    starts[i] = c.at;
     values[i] = f.value;
     Call {
         word: c.word,
@@ -189,12 +195,10 @@ fn read_fields(call: Call, form: &[u8], line: &[u8], store: &mut [u8]) -> Call {
 pub fn read(words: &[u8], line: &[u8], store: &mut [u8]) -> Call {
     let end = fields::field_end(line, 0);
     let entry = find(words, console::front(line, end));
-    let mut c = no_call();
-    c.word = entry.word;
-    c.at = end;
-    let c = read_fields(c, slice(words, entry.start, entry.end), line, store);
+    let form = slice(words, entry.start, entry.end);
+    let c = read_fields(begun(entry.word, end), form, line, store);
     if c.at != line.len() {
-        return no_call();
+        return begun(0, 0);
     }
     c
 }
@@ -297,21 +301,22 @@ pub fn refused(number: u8) -> Text {
     numbered(b"refused", number as u64)
 }
 
-// Writes octets in hex behind the first byte of a buffer that has room for them, and returns where they end.
+// Writes octets in hex behind the first byte of a buffer that has room for them; `-` stands for none. Returns where they end.
 fn write_hex(octets: &[u8], out: &mut [u8]) -> usize {
     if out.len() / 2 <= octets.len() {
         return 0;
+    }
+    if octets.len() == 0 {
+        out[1] = b'-';
+        return 2;
     }
     let end = 2 * octets.len() + 1;
     hex::write(octets, &mut out[1..end]);
     end
 }
 
-// Puts a space and octets in hex; `-` stands for none.
+// Puts a space and octets.
 pub fn put_octets(t: Text, octets: &[u8]) -> Text {
-    if octets.len() == 0 {
-        return put(t, b" -");
-    }
     let mut text = [b' '; 4096];
     let end = write_hex(octets, &mut text);
     put(t, console::front(&text, end))

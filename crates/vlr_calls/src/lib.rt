@@ -20,16 +20,20 @@ pub fn answer(vlr: Vlr, line: &[u8]) -> Kept {
         line,
         &mut store,
     );
+    call(vlr, c, &store)
+}
+
+fn call(vlr: Vlr, c: Call, store: &[u8]) -> Kept {
     if c.word == 0 {
         return Kept {
             vlr,
             text: call_parts::word(b"bad line"),
         };
     }
-    put_reply(call(vlr, c, &store))
+    put_reply(reply(vlr, c, store))
 }
 
-fn call(vlr: Vlr, c: Call, store: &[u8]) -> Reply {
+fn reply(vlr: Vlr, c: Call, store: &[u8]) -> Reply {
     let word = c.word;
     match word {
         1 => made(vlr::new()),
