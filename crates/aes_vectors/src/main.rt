@@ -1,41 +1,6 @@
 // AES-128 of vectors: each line of the standard input is `KEY PLAINTEXT` in lower-case hex, and its answer is the ciphertext, or
 // `bad line`.
-ghost use mathlib.Core.Path.{_≡_};
 ghost use Rattle.aes_tables.specs.RoundTable.{IsRoundTable};
-ghost use Rattle.aes.specs.Cipher.{aes};
-ghost use Rattle.aes_vectors.specs.Answer.{answered, wellFormed};
-
-// One block under a key.
-fn encrypted(table: &[u32; 256], key: [u8; 16], block: [u8; 16]) -> [u8; 16]
-    requires { ⌜ IsRoundTable (now table) ⌝ }
-    ensures { λ r. ⌜ r ≡ aes key block ⌝ }
-{
-    let w = aes_schedule::key_expansion(aes_words::from_octets(key));
-    aes_words::to_octets(aes::encrypt(table, &w, aes_words::from_octets(block)))
-}
-
-// Whether the line is well formed: then `out` is the ciphertext in hex, and else as it was.
-fn ciphertext(table: &[u32; 256], line: &[u8], out: &mut [u8; 32]) -> bool
-    requires { ⌜ IsRoundTable (now table) ⌝ }
-    ensures answer { λ r. ⌜ r ≡ wellFormed (now (line .entry)) ⌝ }
-    ensures text { λ _. ⌜ now (out .exit) ≡ answered (now (out .entry)) (now (line .entry)) ⌝ }
-{
-    if line.len() != 65 {
-        return false;
-    }
-    if line[32] != b' ' {
-        return false;
-    }
-    let mut key = [0u8; 16];
-    if !hex::read(&line[..32], &mut key) {
-        return false;
-    }
-    let mut block = [0u8; 16];
-    if !hex::read(&line[33..65], &mut block) {
-        return false;
-    }
-    hex::write(&encrypted(table, key, block), out)
-}
 
 // Puts a ciphertext and the end of its line into the output buffer, and returns how many bytes wait there.
 fn put_ciphertext(text: &[u8; 32], out: &mut [u8], used: usize) -> usize {
@@ -48,7 +13,7 @@ fn answer(table: &[u32; 256], line: &[u8], out: &mut [u8], used: usize) -> usize
     requires { ⌜ IsRoundTable (now table) ⌝ }
 {
     let mut text = [0u8; 32];
-    if !ciphertext(table, line, &mut text) {
+    if !aes_lines::ciphertext(table, line, &mut text) {
         return console::put(out, used, b"bad line\n");
     }
     put_ciphertext(&text, out, used)

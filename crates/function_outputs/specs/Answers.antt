@@ -1,8 +1,8 @@
--- The seven outputs of one line. Assumes nothing: these are definitions.
+-- The seven outputs of the authentication functions. Assumes nothing: these are definitions.
 use mathlib.Core.Path.{_≡_}
 use Rattle.octets.specs.Octets.{Octets}
 use Rattle.aka.specs.Functions.{Functions}
-use Rattle.function_vectors.specs.declared.Outputs.{Outputs}
+use Rattle.function_outputs.specs.declared.Outputs.{Outputs}
 
 -- the outputs are those of a subscriber's functions
 pub record Answers (F : Functions) (rand sqn amf : Octets) (o : Outputs) : Type 0 where

@@ -1,8 +1,8 @@
 -- `seven` gives the seven outputs of the keys. Assumes nothing.
 use Rattle.functions.specs.Challenge.{keysOf}
 use borrow.Author.Needs.{needs}
-use Rattle.function_vectors.proofs.seven.Statement.{statement}
-use Rattle.function_vectors.proofs.seven.Tie as tie
+use Rattle.function_outputs.proofs.seven.Statement.{statement}
+use Rattle.function_outputs.proofs.seven.Tie as tie
 
 returns : tie.Need-returns
 returns c =
