@@ -1,3 +1,4 @@
 pub mod Tables
+pub mod Products
 pub mod Rules
 pub mod Range

@@ -2,15 +2,15 @@
 use mathlib.Core.Path.{refl}
 use lib.Dec.{lit≤}
 use Rattle.octets.specs.Octets.{digits, equal}
-use Rattle.gf256.specs.Field.{xtime, xtimes, sum, times}
-use Rattle.aes_tables.specs.RoundTable.{added}
+use Rattle.gf256.specs.Field.{xtime}
 use Rattle.aes_tables.proofs.Tables.{sboxTable}
-use Rattle.aes_tables.proofs.Rules.{isAdded, round-rule}
+use Rattle.aes_tables.proofs.Products.{plus, product}
+use Rattle.aes_tables.proofs.Rules.{computed, isAdded, round-rule}
 use Rattle.aes_tables.proofs.round_table.Statement.{statement}
 use Rattle.aes_tables.proofs.round_table.Tie as tie
 
 returns : tie.Need-returns
-unfolding isAdded sboxTable digits equal xtime xtimes sum times added
+unfolding isAdded sboxTable digits equal xtime plus product computed
 returns c = round-rule _ (lit≤ tt) refl
 
 pub round-table-spec : {M : Type 1} → statement M
