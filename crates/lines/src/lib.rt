@@ -1,9 +1,8 @@
 // Lines of an input that comes in pieces. The caller lends the buffer of the line so far, and keeps `held`, the count of the
 // line's bytes. A line that is longer than the buffer counts as one byte more than the buffer has, however long it is.
-ghost use Prim.Native.Nat.{_+_, _≤_, min};
+ghost use Prim.Native.Nat.{min};
 ghost use mathlib.Core.Path.{_≡_};
 ghost use lib.ListN.{length, drop};
-ghost use lib.Seq.{paste};
 ghost use Rattle.lines.specs.Lines.{grown, hasNewline, nextFrom, partFrom, stored, upToNewline};
 
 const NEWLINE: u8 = 10;
@@ -29,16 +28,11 @@ fn run(bytes: &[u8]) -> usize
     i
 }
 
-// Copies `part` into `line` from `at` on.
-fn copy(line: &mut [u8], at: usize, part: &[u8])
-    requires { ⌜ at + length (now part) ≤ length (now line) ⌝ }
-    ensures { λ _. ⌜ now (line .exit) ≡ paste (now (line .entry)) at (now (part .entry)) (length (now (part .entry))) ⌝ }
+// The smaller of two numbers.
+fn least(a: usize, b: usize) -> usize
+    ensures { λ r. ⌜ r ≡ min a b ⌝ }
 {
-    let mut i = 0;
-    while i < part.len() {
-        line[at + i] = part[i];
-        i += 1;
-    }
+    if a <= b { a } else { b }
 }
 
 // Appends `part` to the line, as far as there is room, and returns the count of the line's bytes.
@@ -51,20 +45,9 @@ fn append(line: &mut [u8], held: usize, part: &[u8]) -> usize
     if size < held {
         return size + 1;
     }
-    let room = size - held;
-    if room < part.len() {
-        copy(line, held, &part[..room]);
-        return size + 1;
-    }
-    copy(line, held, part);
-    held + part.len()
-}
-
-// The smaller of two numbers.
-fn least(a: usize, b: usize) -> usize
-    ensures { λ r. ⌜ r ≡ min a b ⌝ }
-{
-    if a <= b { a } else { b }
+    let n = least(part.len(), size - held);
+    bytes::copy(&part[..n], &mut line[held..]);
+    least(held + part.len(), size + 1)
 }
 
 // Takes the bytes of `piece` from `from` up to its first newline or its end, and appends them to the line as far as there is
@@ -79,17 +62,9 @@ pub fn take(line: &mut [u8], held: usize, piece: &[u8], from: usize) -> Taken
     let rest = &piece[start..];
     let n = run(rest);
     let count = append(line, held, &rest[..n]);
-    if n < rest.len() {
-        let next = start + n + 1;
-        return Taken {
-            next,
-            held: count,
-            ended: true,
-        };
-    }
     Taken {
-        next: piece.len(),
+        next: least(start + n + 1, piece.len()),
         held: count,
-        ended: false,
+        ended: n < rest.len(),
     }
 }

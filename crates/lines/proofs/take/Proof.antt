@@ -1,9 +1,9 @@
 -- `lines::take` meets its contract: the bytes of the piece from the place on are taken apart at their first newline. Assumes nothing.
-use Prim.Native.Nat.{ℕ, _-_, min}
+use Prim.Native.Nat.{ℕ, _+_, _-_, _≤_, min}
 use mathlib.Core.List.{List}
-use mathlib.Core.Path.{_≡_, sym, ap, _∙_}
+use mathlib.Core.Path.{_≡_, sym, ap, ap₂, _∙_}
 use native.Mathlib.Omega.{arith}
-use borrow.Author.Tests.{le-ltb, lt-ltb}
+use lib.Dec.{ltb}
 use lib.ListN.{length, drop, take, length-drop}
 use lib.Seq.{length-take-le}
 use Rattle.lines.specs.Lines.{grown, stored, upToNewline}
@@ -54,21 +54,6 @@ held c = c .before .before .append .ensures .0 ∙ ap (λ (l : List ℕ). grown 
 line : (c : Known) → c .before .before .append .last .0 ≡ stored (Line c) (Held c) (upToNewline (Left c))
 line c = c .before .before .append .ensures .1 ∙ ap (λ (l : List ℕ). stored (Line c) (Held c) l) (part c)
 
-least-requires : tie.Need-least-requires
-least-requires c κs = search needs
-
-sub-rest : tie.Need-sub-rest
-sub-rest c = search needs
-
-part-rest-start : tie.Need-part-rest-start
-part-rest-start c = search needs
-
-part-rest-end : tie.Need-part-rest-end
-part-rest-end c = search needs
-
-run-requires : tie.Need-run-requires
-run-requires c κs = search needs
-
 slice-aggregate-append : tie.Need-slice-aggregate-append
 slice-aggregate-append c =
     let whole = c .before .before .before .before .before .before .before .args .piece .now in
@@ -76,51 +61,28 @@ slice-aggregate-append c =
     let rest = take (length whole - start) (drop start whole) in
     sym (length-take-le (c .before .before .run .result) rest (omega (arith, c .before .before .run .ensures, front-le rest)))
 
-append-requires : tie.Need-append-requires
-append-requires c κs = search needs
+-- what is taken lies within the piece
+inside : (c : Known) → Start c + N c ≤ length (Piece c)
+inside c = omega (arith, within c, count c, front-le (Left c), length-drop (From c) (Piece c))
 
-add-next : tie.Need-add-next
-add-next c = search needs
+add-least : tie.Need-add-least
+add-least c = omega (arith, inside c)
 
-add-next-2 : tie.Need-add-next-2
-add-next-2 c = search needs
-
-same-length : tie.Need-same-length
-same-length c = search needs
+add-least-2 : tie.Need-add-least-2
+add-least-2 c = omega (arith, inside c)
 
 returns : tie.Need-returns
 returns c =
     let k = c .before in
-    let size = length-drop (From k) (Piece k) in (
-      omega (arith, within k, count k, size, past-length (Left k)),
-      (held k, (sym (followed (Left k) ∙ lt-ltb (length (upToNewline (Left k))) (length (Left k)) (omega (arith, within k, count k, size))), line k)),
-    )
-
-same-length-2 : tie.Need-same-length-2
-same-length-2 c = search needs
-
-returns-2 : tie.Need-returns-2
-returns-2 c =
-    let k = c .before in
-    let size = length-drop (From k) (Piece k) in (
-      omega (arith, within k, count k, size, past-length (Left k)),
-      (held k, (sym (followed (Left k) ∙ le-ltb (length (upToNewline (Left k))) (length (Left k)) (omega (arith, within k, count k, size))), line k)),
+    let size = length-drop (From k) (Piece k) in
+    let rest = ap length (left (Piece k) (From k) (Start k) (within k)) in (
+      omega (arith, c .least2 .ensures, within k, count k, size, past-length (Left k), front-le (Left k)),
+      (held k, (ap₂ ltb (count k) rest ∙ sym (followed (Left k)), line k)),
     )
 
 pub take-spec : {M : Type 1} → statement M
 take-spec =
     tie.close
     (tie.spec
-    least-requires
-    sub-rest
-    part-rest-start
-    part-rest-end
-    run-requires
-    slice-aggregate-append
-    append-requires
-    add-next
-    add-next-2
-    same-length
-    returns
-    same-length-2
-    returns-2)
+    (λ c κs. search needs) (λ c. search needs) (λ c. search needs) (λ c. search needs) (λ c κs. search needs)
+    slice-aggregate-append (λ c κs. search needs) add-least add-least-2 (λ c κs. search needs) (λ c. search needs) returns)
