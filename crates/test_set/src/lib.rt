@@ -41,46 +41,15 @@ fn sqn_amf(sqn: [u8; 6], amf: [u8; 2]) -> [u8; 8]
 pub fn left1(x: [u8; 16]) -> [u8; 16]
     ensures { λ r. ⌜ r ≡ turnLeft 1 x ⌝ }
 {
-    [
-        x[1],
-        x[2],
-        x[3],
-        x[4],
-        x[5],
-        x[6],
-        x[7],
-        x[8],
-        x[9],
-        x[10],
-        x[11],
-        x[12],
-        x[13],
-        x[14],
-        x[15],
-        x[0],
-    ]
+    let first = x[0];
+    let mut turned = [first; 16];
+    bytes::copy(&x[1..], &mut turned);
+    turned
 }
 
 // Turned left by 16 bits.
 pub fn left2(x: [u8; 16]) -> [u8; 16]
     ensures { λ r. ⌜ r ≡ turnLeft 2 x ⌝ }
 {
-    [
-        x[2],
-        x[3],
-        x[4],
-        x[5],
-        x[6],
-        x[7],
-        x[8],
-        x[9],
-        x[10],
-        x[11],
-        x[12],
-        x[13],
-        x[14],
-        x[15],
-        x[0],
-        x[1],
-    ]
+    left1(left1(x))
 }
