@@ -9,7 +9,7 @@ use Rattle.aka.proofs.Verdicts.{answer-of}
 use Rattle.usim_record.specs.declared.Answer.{Answer}
 use Rattle.usim_record.specs.declared.Verdict.the-variants.{Refused}
 use Rattle.usim_record.specs.Views.{verdictOf, answerOf, sqnGiven, sqnDue}
-use Rattle.usim.specs.Steps.{Answers}
+use Rattle.usim_accept.specs.Steps.{Answers}
 
 module _ (usim : Usim) (rand autn : Octets) (r : Answer) where
   abbrev Whole : Type 0

@@ -9,14 +9,14 @@ use usim_record::unchanged;
 ghost use mathlib.Core.Bool.{true};
 ghost use mathlib.Core.Path.{_≡_};
 ghost use Prim.Native.Nat.{_<_, _^_};
-ghost use Rattle.octets.specs.Octets.{Octets, encode};
+ghost use Rattle.octets.specs.Octets.{Octets};
 ghost use Rattle.aes_tables.specs.RoundTable.{IsRoundTable};
 ghost use Rattle.functions.specs.Challenge.{keysOf, Started};
 ghost use Rattle.functions.specs.Sets.{sets};
-ghost use Rattle.aka.specs.Functions.{Keys as KeysOf, dummyAmf};
-ghost use Rattle.aka.specs.Usim.{validUsim, sqnMs, sqnIn, macRight, makeAuts, accepted, judgement, challenge as challengeOf};
+ghost use Rattle.aka.specs.Functions.{Keys as KeysOf};
+ghost use Rattle.aka.specs.Usim.{validUsim, sqnIn, macRight, judgement, challenge as challengeOf};
 ghost use Rattle.usim_record.specs.Views.{usimOf, verdictOf, answerOf, sqnGiven, sqnDue};
-ghost use Rattle.usim.specs.Steps.{Authentic, Answers};
+ghost use Rattle.usim_accept.specs.Steps.{Authentic, Answers};
 
 // Whether AUTN's MAC is f1 of SQN, RAND and AUTN's AMF.
 fn mac_right(t: &[u32; 256], w: &[u32; 44], c: Challenge, sqn: [u8; 6], autn: [u8; 16]) -> bool
@@ -26,46 +26,6 @@ fn mac_right(t: &[u32; 256], w: &[u32; 44], c: Challenge, sqn: [u8; 6], autn: [u
     let mac = octets::eight(autn, 8);
     let expected = mac_functions::f1(t, w, c, sqn, tokens::amf_in(autn));
     tokens::same(mac, expected)
-}
-
-// AK*, which conceals SQN_MS: f5* of RAND. AK conceals the SQN of AUTN only.
-fn ak_star(t: &[u32; 256], w: &[u32; 44], c: Challenge) -> [u8; 6]
-    requires { ⌜ IsRoundTable (now t) ⌝ }
-    ensures { λ r. ⌜ ((keys : KeysOf) (rand : Octets) → Started keys rand (now (w .entry)) c → r ≡ sets .under keys .f5* rand) ⌝ }
-{
-    functions::f5s(t, w, c)
-}
-
-// AUTS of SQN_MS. The AMF of MAC-S is zero.
-fn auts(t: &[u32; 256], w: &[u32; 44], c: Challenge, usim: Usim) -> [u8; 14]
-    requires { ⌜ IsRoundTable (now t) × (validUsim 5 sets (usimOf usim) ≡ true) ⌝ }
-    ensures { λ r. ⌜ ((keys : KeysOf) (rand : Octets) → Started keys rand (now (w .entry)) c → r ≡ makeAuts (sets .under keys) (encode 6 (sqnMs 5 (usimOf usim))) dummyAmf rand) ⌝ }
-{
-    let places = usim.places;
-    let sqn = tokens::sqn_octets(places::sqn_ms(places));
-    let ak = ak_star(t, w, c);
-    let mac = mac_functions::f1s(t, w, c, sqn, [0; 2]);
-    tokens::auts(sqn, ak, mac)
-}
-
-// The place at IND becomes SEQ, and the keys are given.
-fn accept(t: &[u32; 256], w: &[u32; 44], c: Challenge, usim: Usim, sqn: u64, res: [u8; 8]) -> Answer
-    requires { ⌜ IsRoundTable (now t) ⌝ }
-    ensures { λ r. ⌜ ((rand autn : Octets) → Authentic (keysOf (usim .keys)) rand autn (now (w .entry)) c sqn res → Answers (usimOf usim) rand autn accepted r) ⌝ }
-{
-    let ind = (sqn % 32) as usize;
-    let mut next = usim;
-    next.places[ind] = sqn / 32;
-    let ck = functions::f3(t, w, c);
-    let ik = functions::f4(t, w, c);
-    Answer {
-        verdict: Verdict::Accepted(sqn),
-        usim: next,
-        res,
-        ck,
-        ik,
-        auts: [0; 14],
-    }
 }
 
 // MAC is right: freshness decides.
@@ -82,9 +42,9 @@ fn judge_sqn(
 {
     let places = usim.places;
     if !places::is_fresh(places, sqn / 32, (sqn % 32) as usize) {
-        return unchanged(Verdict::Sync, usim, auts(t, w, c, usim));
+        return unchanged(Verdict::Sync, usim, usim_auts::auts(t, w, c, usim));
     }
-    accept(t, w, c, usim, sqn, res)
+    usim_accept::accept(t, w, c, usim, sqn, res)
 }
 
 // First MAC, then freshness.

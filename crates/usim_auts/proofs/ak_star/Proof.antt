@@ -1,7 +1,7 @@
 -- `ak_star` is f5*. Assumes nothing.
 use borrow.Author.Needs.{needs}
-use Rattle.usim.proofs.ak_star.Statement.{statement}
-use Rattle.usim.proofs.ak_star.Tie as tie
+use Rattle.usim_auts.proofs.ak_star.Statement.{statement}
+use Rattle.usim_auts.proofs.ak_star.Tie as tie
 
 returns : tie.Need-returns
 returns c = search needs

@@ -10,8 +10,8 @@ use Rattle.aka.proofs.Places.{within}
 use Rattle.aka.proofs.Verdicts.{valid-parts}
 use Rattle.usim_record.specs.Views.{usimOf}
 use borrow.Author.Needs.{needs}
-use Rattle.usim.proofs.auts.Statement.{statement}
-use Rattle.usim.proofs.auts.Tie as tie
+use Rattle.usim_auts.proofs.auts.Statement.{statement}
+use Rattle.usim_auts.proofs.auts.Tie as tie
 
 sqn-ms-requires : tie.Need-sqn-ms-requires
 sqn-ms-requires c κs =

@@ -3,8 +3,8 @@ use mathlib.Core.Path.{refl}
 use Rattle.functions.specs.Challenge.{keysOf}
 use Rattle.aka.specs.Usim.{answerWith}
 use borrow.Author.Needs.{needs}
-use Rattle.usim.proofs.accept.Statement.{statement}
-use Rattle.usim.proofs.accept.Tie as tie
+use Rattle.usim_accept.proofs.accept.Statement.{statement}
+use Rattle.usim_accept.proofs.accept.Tie as tie
 
 returns : tie.Need-returns
 unfolding answerWith
