@@ -1,13 +1,11 @@
 // The record of the authentication centre, AuC (document 01: centre), and the refusals that order and resynchronisation share.
 use functions::Keys;
-ghost use Prim.Native.Nat.{_+_, _*_, _≤_, _<_};
+ghost use Prim.Native.Nat.{_≤_};
 ghost use mathlib.Core.Path.{_≡_};
-ghost use lib.ListN.{length};
 ghost use Rattle.octets.specs.Octets.{Octets};
 ghost use Rattle.functions.specs.Challenge.{keysOf};
 ghost use Rattle.functions.specs.Sets.{sets};
-ghost use Rattle.aka.specs.Sequence.{limit};
-ghost use Rattle.aka.specs.Auc.{newAuc, validAuc, countOf, after as afterOf};
+ghost use Rattle.aka.specs.Auc.{newAuc, validAuc, countOf};
 ghost use Rattle.auc_record.specs.Views.{aucOf, outcomeOf, answerOf};
 ghost use Rattle.auc_record.specs.Steps.{Checked, refusedWith};
 
@@ -107,19 +105,4 @@ pub fn check(auc: Auc, count: u64, rands: &[u8], size: usize, lent: bool) -> Out
         return Outcome::Repeated(pair.first, pair.second);
     }
     Outcome::Given
-}
-
-// The record after a batch of n from `start` on.
-pub fn after(auc: Auc, start: u64, n: u8) -> Auc
-    requires { ⌜ (start + n ≤ limit 5) × (auc .next < 32) ⌝ }
-    ensures { λ r. ⌜ aucOf r ≡ afterOf 5 (aucOf auc) start n ⌝ }
-{
-    let keys = auc.keys;
-    let amf = auc.amf;
-    Auc {
-        keys,
-        amf,
-        seqhe: start + (n as u64),
-        next: (auc.next + 1) % 32,
-    }
 }

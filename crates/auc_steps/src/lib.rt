@@ -49,7 +49,7 @@ pub fn send(
     Answer {
         outcome,
         n,
-        auc: auc_record::after(auc, start, n),
+        auc: auc_after::after(auc, start, n),
     }
 }
 

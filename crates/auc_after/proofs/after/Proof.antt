@@ -1,8 +1,8 @@
 -- `after` is the record after a batch. Assumes nothing.
 use mathlib.Core.Path.{refl}
 use borrow.Author.Needs.{needs}
-use Rattle.auc_record.proofs.after.Statement.{statement}
-use Rattle.auc_record.proofs.after.Tie as tie
+use Rattle.auc_after.proofs.after.Statement.{statement}
+use Rattle.auc_after.proofs.after.Tie as tie
 
 returns : tie.Need-returns
 returns c = refl
