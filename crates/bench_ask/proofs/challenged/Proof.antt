@@ -5,7 +5,7 @@ use Rattle.aka.specs.Vlr.{VlrAnswer}
 use Rattle.usim_record.specs.Views.{answerOf}
 use Rattle.bench_state.specs.Bench.{cardAnswer, onVerdict}
 use Rattle.bench_state.specs.Views.{benchOf}
-use Rattle.bench_ask.proofs.Verdicts.{other, card-is, sqn-is, on}
+use Rattle.bench_verdicts.proofs.Verdicts.{other, card-is, sqn-is, on}
 use borrow.Author.Needs.{needs}
 use Rattle.bench_ask.proofs.challenged.Statement.{statement}
 use Rattle.bench_ask.proofs.challenged.Tie as tie

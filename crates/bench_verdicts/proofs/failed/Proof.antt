@@ -4,10 +4,10 @@ use Rattle.aka.specs.Vlr.{VlrAnswer}
 use Rattle.bench_replies.specs.Replies.{mac}
 use Rattle.bench_state.specs.Bench.{asked, outOfStep, onVerdict}
 use Rattle.bench_state.specs.Views.{benchOf}
-use Rattle.bench_ask.proofs.Verdicts.{no-acceptance, on, on-sync, on-mac}
+use Rattle.bench_verdicts.proofs.Verdicts.{no-acceptance, on, on-sync, on-mac}
 use borrow.Author.Needs.{needs}
-use Rattle.bench_ask.proofs.failed.Statement.{statement}
-use Rattle.bench_ask.proofs.failed.Tie as tie
+use Rattle.bench_verdicts.proofs.failed.Statement.{statement}
+use Rattle.bench_verdicts.proofs.failed.Tie as tie
 
 returns : tie.Need-returns
 returns c = λ h.

@@ -6,10 +6,10 @@ use Rattle.vlr_record.specs.Views.{answerOf}
 use Rattle.bench_replies.specs.Replies.{Reply}
 use Rattle.bench_state.specs.Bench.{asked, judged}
 use Rattle.bench_state.specs.Views.{benchOf}
-use Rattle.bench_ask.proofs.Verdicts.{on-pass}
+use Rattle.bench_verdicts.proofs.Verdicts.{on-pass}
 use borrow.Author.Needs.{needs}
-use Rattle.bench_ask.proofs.passed.Statement.{statement}
-use Rattle.bench_ask.proofs.passed.Tie as tie
+use Rattle.bench_verdicts.proofs.passed.Statement.{statement}
+use Rattle.bench_verdicts.proofs.passed.Tie as tie
 
 returns : tie.Need-returns
 returns c = λ h.
