@@ -23,16 +23,16 @@ fn read_form(line: &[u8]) -> Command
     ensures { λ r. ⌜ commandOf r ≡ readForm (now (line .entry)) ⌝ }
 {
     if fields::begins(line, b"key ") {
-        return bench_forms::read_key(line);
+        return bench_key_form::read_key(line);
     }
     if fields::begins(line, b"order ") {
-        return bench_forms::read_batch(Word::Order, line, 6);
+        return bench_batch_form::read_batch(Word::Order, line, 6);
     }
     if fields::begins(line, b"resync ") {
-        return bench_forms::read_batch(Word::Resync, line, 7);
+        return bench_batch_form::read_batch(Word::Resync, line, 7);
     }
     if fields::begins(line, b"put ") {
-        return bench_forms::read_put(line);
+        return bench_put_form::read_put(line);
     }
     if is_word(line, b"ask") {
         return bench_lines::only(Word::Ask);

@@ -1,9 +1,9 @@
 -- `number` is a decimal number that is not too long. Assumes nothing.
 use mathlib.Core.Path.{refl}
 use borrow.Author.Needs.{needs}
-use Rattle.bench_forms.proofs.Forms.{too-long, short-enough}
-use Rattle.bench_forms.proofs.number.Statement.{statement}
-use Rattle.bench_forms.proofs.number.Tie as tie
+use Rattle.bench_put_form.proofs.PutForms.{too-long, short-enough}
+use Rattle.bench_put_form.proofs.number.Statement.{statement}
+use Rattle.bench_put_form.proofs.number.Tie as tie
 
 returns : tie.Need-returns
 returns c = rw (too-long _ _ (c .if1 .taken)) (refl, refl)

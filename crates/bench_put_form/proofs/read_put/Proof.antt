@@ -4,10 +4,10 @@ use mathlib.Core.List.{List}
 use mathlib.Core.Path.{_≡_, _∙_}
 use borrow.Author.Tests.{not-true, not-false}
 use Rattle.fields.specs.Fields.{endOf}
-use Rattle.bench_forms.proofs.Forms.{seqhe-is, next-is, no-next, put-seqhe, put-next, put-read, number-false, number-true, number-value}
+use Rattle.bench_put_form.proofs.PutForms.{seqhe-is, next-is, no-next, put-seqhe, put-next, put-read, number-false, number-true, number-value}
 use borrow.Author.Needs.{needs}
-use Rattle.bench_forms.proofs.read_put.Statement.{statement}
-use Rattle.bench_forms.proofs.read_put.Tie as tie
+use Rattle.bench_put_form.proofs.read_put.Statement.{statement}
+use Rattle.bench_put_form.proofs.read_put.Tie as tie
 
 returns : tie.Need-returns
 returns c =

@@ -2,10 +2,10 @@
 use mathlib.Core.Path.{sym, _∙_}
 use borrow.Author.Tests.{not-true, not-false}
 use Rattle.bench_lines.specs.Views.{wordOf}
-use Rattle.bench_forms.proofs.Batches.{no-count, other-length, no-rands, batch-read}
+use Rattle.bench_batch_form.proofs.Batches.{no-count, other-length, no-rands, batch-read}
 use borrow.Author.Needs.{needs}
-use Rattle.bench_forms.proofs.read_batch.Statement.{statement}
-use Rattle.bench_forms.proofs.read_batch.Tie as tie
+use Rattle.bench_batch_form.proofs.read_batch.Statement.{statement}
+use Rattle.bench_batch_form.proofs.read_batch.Tie as tie
 
 returns : tie.Need-returns
 returns c =

@@ -1,10 +1,10 @@
 -- `read_key` is `readKey`: each test that fails makes the line a bad one. Assumes nothing.
 use mathlib.Core.Path.{sym, _∙_}
 use borrow.Author.Tests.{not-true, not-false}
-use Rattle.bench_forms.proofs.Forms.{key-length, key-set, key-k, key-opc, key-amf, key-read, low-digit, high-digit, is-digit}
+use Rattle.bench_key_form.proofs.KeyForms.{key-length, key-set, key-k, key-opc, key-amf, key-read, low-digit, high-digit, is-digit}
 use borrow.Author.Needs.{needs}
-use Rattle.bench_forms.proofs.read_key.Statement.{statement}
-use Rattle.bench_forms.proofs.read_key.Tie as tie
+use Rattle.bench_key_form.proofs.read_key.Statement.{statement}
+use Rattle.bench_key_form.proofs.read_key.Tie as tie
 
 returns : tie.Need-returns
 returns c = c .only .ensures ∙ key-length _ (c .before .if1 .taken)
