@@ -1,4 +1,5 @@
 // The serving node, VLR or SGSN (document 01: node): its answer to each of its operations. Its record is handed on from `vlr_record`.
+use vlr_judgement::judged;
 pub use vlr_record::Outcome;
 pub use vlr_record::Reply;
 pub use vlr_record::State;
@@ -16,37 +17,10 @@ ghost use mathlib.Core.Path.{_≡_};
 ghost use Rattle.aka.specs.Vlr as spec;
 ghost use Rattle.vlr_record.specs.Views.{answerOf, vlrOf};
 
-// Where CK and IK begin in a vector.
-const CK: usize = 24;
-
-const IK: usize = 40;
-
 // The octets of RES and AUTS.
 const RES_SIZE: usize = 8;
 
 const AUTS_SIZE: usize = 14;
-
-// CK and IK are given where RES is right.
-fn judged(vlr: Vlr, right: bool) -> Reply
-    ensures { λ r. ⌜ answerOf r ≡ spec.judged (vlrOf vlr) right ⌝ }
-{
-    let next = moved(State::Idle, vlr);
-    if !right {
-        return plain(Outcome::Cause(2), next);
-    }
-    let out = vlr.out;
-    Reply {
-        outcome: Outcome::Passed,
-        vlr: next,
-        rand: [0; 16],
-        autn: [0; 16],
-        auts: [0; 14],
-        ck: held_vectors::sixteen(out, CK),
-        ik: held_vectors::sixteen(out, IK),
-    }
-}
-
-// ---- operations
 
 // Store (not in Resyncing) adds a batch behind.
 pub fn store(vlr: Vlr, count: u64, batch: &[u8]) -> Reply

@@ -6,8 +6,8 @@ use Rattle.aka.specs.Layout.{readVector}
 use Rattle.aka.specs.Vlr.{Vlr, cause, plain, judged}
 use Rattle.vlr_record.specs.Views.{vlrOf}
 use borrow.Author.Needs.{needs}
-use Rattle.vlr.proofs.judged.Statement.{statement}
-use Rattle.vlr.proofs.judged.Tie as tie
+use Rattle.vlr_judgement.proofs.judged.Statement.{statement}
+use Rattle.vlr_judgement.proofs.judged.Tie as tie
 
 returns : tie.Need-returns
 unfolding judged
