@@ -130,10 +130,7 @@ pub fn next_line(piece: &mut [u8], line: &mut [u8], out: &[u8], input: Input) ->
     let mut turns = u64::MAX;
     while turns > 0 {
         now = step(piece, line, out, now);
-        if now.ready {
-            return now;
-        }
-        if now.over {
+        if now.ready | now.over {
             return now;
         }
         turns -= 1;
