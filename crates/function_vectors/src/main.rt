@@ -52,24 +52,17 @@ fn put(octets: &[u8], end: u8, out: &mut [u8], used: usize) -> usize {
 
 // The outputs on one line: first those of 8 octets, then the others.
 fn put_outputs(o: Outputs, out: &mut [u8], used: usize) -> usize {
-    let mac = o.mac;
-    let macs = o.macs;
-    let res = o.res;
-    let n = put(&mac, b' ', out, used);
-    let n = put(&macs, b' ', out, n);
-    let n = put(&res, b' ', out, n);
+    let n = put(&o.mac, b' ', out, used);
+    let n = put(&o.macs, b' ', out, n);
+    let n = put(&o.res, b' ', out, n);
     put_keys(o, out, n)
 }
 
 fn put_keys(o: Outputs, out: &mut [u8], used: usize) -> usize {
-    let ck = o.ck;
-    let ik = o.ik;
-    let ak = o.ak;
-    let aks = o.aks;
-    let n = put(&ck, b' ', out, used);
-    let n = put(&ik, b' ', out, n);
-    let n = put(&ak, b' ', out, n);
-    put(&aks, b'\n', out, n)
+    let n = put(&o.ck, b' ', out, used);
+    let n = put(&o.ik, b' ', out, n);
+    let n = put(&o.ak, b' ', out, n);
+    put(&o.aks, b'\n', out, n)
 }
 
 // Puts the answer to a line. The form of a line comes before its set.
