@@ -29,7 +29,7 @@ pub struct Entry {
     end: usize,
 }
 
-// A call before its fields.
+// A call before its fields. Without a word it stays no call, whatever is added.
 fn begun(word: u64, at: usize) -> Call {
     Call {
         word,
@@ -86,8 +86,9 @@ fn find(words: &[u8], word: &[u8]) -> Entry {
     }
 }
 
-// A form has a letter for each field, a small one for a number and a capital one for octets. Whether the number, or how many octets
-// there are, is right for the letter. `n` is any number, and `O` any octets.
+// A form has a letter for each field, a small one for a number and a capital one for octets: `s` a state, `b` what has one octet, `l` the
+// length of a lent buffer, `n` any number; `A` AMF, `K` a key, `V` a vector, `P` the node's places, `O` any octets. Whether the number, or
+// how many octets there are, is right for the letter.
 fn fits(kind: u8, n: Number) -> bool {
     if !n.ok {
         return false;
@@ -105,7 +106,7 @@ fn fits(kind: u8, n: Number) -> bool {
     }
 }
 
-// Reads octets in hex to the front of `out`; `-` stands for none. The value is how many there are.
+// Reads octets in hex to the front of `out`; `-` stands for none, an empty text for nothing. The value is how many there are.
 fn octets(text: &[u8], out: &mut [u8]) -> Number {
     let size = text.len() / 2;
     if size == 0 {
@@ -141,7 +142,7 @@ fn no_field() -> Field {
     }
 }
 
-// Reads the field behind the space at `at`. The store is as long as the longest line that is read.
+// Reads the field behind the space at `at`. The store is as long as the longest line that is a call.
 fn read_field(kind: u8, line: &[u8], at: usize, store: &mut [u8]) -> Field {
     if line.len() <= at {
         return no_field();
