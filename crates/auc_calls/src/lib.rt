@@ -1,4 +1,5 @@
 // The calls of the centre.
+ghost use Prim.Native.Nat.{_≤_};
 use auc::Auc;
 use auc::Outcome;
 use call_parts::Call;
@@ -15,6 +16,7 @@ pub fn answer(line: &[u8]) -> Text {
     call(c, &store)
 }
 
+// The words by their places in the list above.
 fn call(c: Call, store: &[u8]) -> Text {
     let word = c.word;
     match word {
@@ -42,11 +44,10 @@ fn record(c: Call, store: &[u8]) -> Auc {
 }
 
 // Lends the first `size` bytes for the image.
-fn write(auc: Auc, size: usize) -> Text {
+fn write(auc: Auc, size: usize) -> Text
+    requires { ⌜ size ≤ 512 ⌝ }
+{
     let mut buffer = [0u8; 512];
-    if 512 < size {
-        return call_parts::no_text();
-    }
     let refusal = auc_image::write(auc, &mut buffer[0..size]);
     call_parts::image(refusal, buffer, size)
 }

@@ -1,4 +1,5 @@
 // The calls of the card.
+ghost use Prim.Native.Nat.{_≤_};
 use call_parts::Call;
 use call_parts::Text;
 use usim::Usim;
@@ -15,6 +16,7 @@ pub fn answer(line: &[u8]) -> Text {
     call(c, &store)
 }
 
+// The words by their places in the list above.
 fn call(c: Call, store: &[u8]) -> Text {
     let word = c.word;
     match word {
@@ -44,11 +46,10 @@ fn places(c: Call) -> [u64; 32] {
 }
 
 // Lends the first `size` bytes for the image.
-fn write(card: Usim, size: usize) -> Text {
+fn write(card: Usim, size: usize) -> Text
+    requires { ⌜ size ≤ 512 ⌝ }
+{
     let mut buffer = [0u8; 512];
-    if 512 < size {
-        return call_parts::no_text();
-    }
     let refusal = usim_image::write(card, &mut buffer[0..size]);
     call_parts::image(refusal, buffer, size)
 }

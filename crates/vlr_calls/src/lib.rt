@@ -33,6 +33,7 @@ fn call(vlr: Vlr, c: Call, store: &[u8]) -> Kept {
     put_reply(reply(vlr, c, store))
 }
 
+// The words by their places in the list above.
 fn reply(vlr: Vlr, c: Call, store: &[u8]) -> Reply {
     let word = c.word;
     match word {
