@@ -53,7 +53,7 @@ pub fn send(
     }
 }
 
-// In range the batch is sent as usual, and MAC-S is not looked at. Otherwise MAC-S is verified, and SEQ_HE first becomes SEQ_MS.
+// SEQ_HE is kept or reset first; a wrong MAC-S is refused.
 pub fn renew(
     t: &[u32; 256],
     w: &[u32; 44],
@@ -69,13 +69,10 @@ pub fn renew(
     requires lent { ⌜ (length (now rands) ≡ 16 * n) × (length (now batch) ≡ 72 * n) ⌝ }
     ensures { λ r. ⌜ ((rand : Octets) → Started (keysOf (auc .keys)) rand (now (w .entry)) c → answerOf r (now (batch .exit)) ≡ renewed (aucOf auc) n (now (rands .entry)) (now (batch .entry)) rand auts) ⌝ }
 {
-    let sqn = auts::sqn_ms(t, w, c, auts);
-    let ms = tokens::sqn_number(sqn) / 32;
-    if auts::in_range(auc.seqhe, ms, n) {
-        return send(t, w, Outcome::Kept, auc, auc.seqhe, n, rands, batch);
+    let start = auc_starts::start_of(t, w, c, auts, auc.seqhe, n);
+    let outcome = start.outcome;
+    if start.forged {
+        return auc_record::refused(outcome, auc);
     }
-    if !auts::mac_s_right(t, w, c, sqn, auts) {
-        return auc_record::refused(Outcome::Refused(5), auc);
-    }
-    send(t, w, Outcome::Reset, auc, ms, n, rands, batch)
+    send(t, w, outcome, auc, start.seq, n, rands, batch)
 }

@@ -1,84 +1,47 @@
--- `renew` keeps SEQ_HE in range, and otherwise verifies MAC-S and resets it. Assumes nothing.
-use Prim.Native.Nat.{ℕ, _/_, _^_, _<_}
-use mathlib.Core.Bool.{Bool, true, false}
-use mathlib.Core.Path.{_≡_, sym, ap, _∙_}
-use native.Mathlib.Omega.{arith}
-use borrow.Author.Tests.{not-true, not-false}
-use Rattle.octets.specs.Octets.{Octets, decode}
+-- `renew` goes on from its start. Assumes nothing.
+use mathlib.Core.Path.{_≡_, ap, _∙_}
+use Rattle.octets.specs.Octets.{Octets}
 use Rattle.functions.specs.Challenge.{keysOf, Started}
-use Rattle.functions.specs.Sets.{sets}
-use Rattle.aka.specs.Auc.{reset, inRange, macSRight, seqMsIn}
 use Rattle.auc_record.specs.Views.{aucOf}
-use Rattle.auc_record.specs.Steps.{sentFrom, renewed}
+use Rattle.auc_record.specs.Steps.{renewed}
+use Rattle.auc_starts.specs.Starts.{startOf, goneOn}
+use Rattle.auc_starts.proofs.GoneOn.{gone-on, refused-on, sent-on}
 use borrow.Author.Needs.{needs}
 use Rattle.auc_steps.proofs.renew.Statement.{statement}
 use Rattle.auc_steps.proofs.renew.Tie as tie
 
-abbrev entry : tie.After-in-range → tie.Start
-entry c = c .before .before .before .before .before
+abbrev entry : tie.After-start-of → tie.Start
+entry c = c .before .before .before
 
-module _ (c : tie.After-in-range) (rand : Octets) (s : Started (keysOf (entry c .args .auc .keys)) rand (entry c .args .w .now) (entry c .args .c)) where
-  abbrev auc₀ : ℕ
-  auc₀ = entry c .args .auc .seqhe
-
-  abbrev ms : ℕ
-  ms = seqMsIn 5 (sets .under (keysOf (entry c .args .auc .keys))) rand (entry c .args .auts)
-
-  ms-is : c .before .sqn-number .result / 32 ≡ ms
-  ms-is = ap (λ (x : ℕ). x / 32) (c .before .sqn-number .ensures .0 ∙ ap decode (c .before .before .sqn-ms .ensures (keysOf (entry c .args .auc .keys)) rand s))
-
-  range-is : (b : Bool) → c .in-range .result ≡ b → inRange auc₀ ms (entry c .args .n) ≡ b
-  range-is b e = ap (λ (m : ℕ). inRange auc₀ m (entry c .args .n)) (sym ms-is) ∙ sym (c .in-range .ensures) ∙ e
-
--- so much a SEQ read from 64 bits may be
-bound : (c : tie.After-sqn-number) → c .sqn-number .result / 32 < 2 ^ 59
-bound c = search needs
-
-send-requires : tie.Need-send-requires
-send-requires c κs =
-    let p = entry (c .before .before) .pre in
-    let room = p .1 .0 in
-    (p .0, ((room .0, omega (arith, room .1), room .2), p .1 .1))
-
-send-requires-2 : tie.Need-send-requires-2
-send-requires-2 c κs =
-    let ranged = c .before .before .before .before in
-    let p = entry ranged .pre in
-    (p .0, ((p .1 .0 .0, bound (ranged .before), p .1 .0 .2), p .1 .1))
+-- what goes on from the start that was found
+gone : (c : tie.After-start-of) (rand : Octets) → Started (keysOf (entry c .args .auc .keys)) rand (entry c .args .w .now) (entry c .args .c) →
+    let args = entry c .args in
+    goneOn (aucOf (args .auc)) (args .n) (args .rands .now) (args .batch .now) (startOf (c .start-of .result))
+    ≡ renewed (aucOf (args .auc)) (args .n) (args .rands .now) (args .batch .now) rand (args .auts)
+gone c rand s =
+    let args = entry c .args in
+    ap (goneOn (aucOf (args .auc)) (args .n) (args .rands .now) (args .batch .now)) (c .start-of .ensures .0 (keysOf (args .auc .keys)) rand s)
+    ∙ gone-on (aucOf (args .auc)) (args .n) (args .rands .now) (args .batch .now) rand (args .auts)
 
 returns : tie.Need-returns
-unfolding renewed
 returns c = λ rand s.
-    let sent = c .before .before in
-    let ranged = sent .before .before .before in
-    rw (range-is ranged rand s true (sent .before .before .if1 .taken)) (sent .send .ensures)
+    let found = c .before .before in
+    let args = entry found .args in
+    c .refused .ensures (args .batch .now)
+    ∙ refused-on (aucOf (args .auc)) (args .n) (args .rands .now) (args .batch .now) (startOf (found .start-of .result)) (c .before .if1 .taken)
+    ∙ gone found rand s
 
 returns-2 : tie.Need-returns-2
-unfolding renewed
 returns-2 c = λ rand s.
-    let verified = c .before .before in
-    let ranged = verified .before .before in
-    let keys = keysOf (entry ranged .args .auc .keys) in
-    let wrong : macSRight (sets .under keys) rand (entry ranged .args .auts) ≡ false =
-    sym (verified .mac-s-right .ensures keys rand s (ranged .before .before .sqn-ms .ensures keys rand s)) ∙ not-true _ (c .before .if2 .taken) in
-    rw (range-is ranged rand s false (verified .before .if1 .left), wrong) (c .refused .ensures (entry ranged .args .batch .now))
-
-returns-3 : tie.Need-returns-3
-unfolding renewed
-returns-3 c = λ rand s.
     let sent = c .before .before in
-    let verified = sent .before .before .before in
-    let ranged = verified .before .before in
-    let args = entry ranged .args in
-    let keys = keysOf (args .auc .keys) in
-    let right : macSRight (sets .under keys) rand (args .auts) ≡ true =
-    sym (verified .mac-s-right .ensures keys rand s (ranged .before .before .sqn-ms .ensures keys rand s)) ∙ not-false _ (sent .before .before .if2 .left) in
-    rw (range-is ranged rand s false (verified .before .if1 .left), right)
-    (sent .send2 .ensures ∙ ap (λ (m : ℕ). sentFrom (aucOf (args .auc)) m (args .n) (args .rands .now) (args .batch .now) reset) (ms-is ranged rand s))
+    let found = sent .before .before .before in
+    let args = entry found .args in
+    sent .send .ensures
+    ∙ sent-on (aucOf (args .auc)) (args .n) (args .rands .now) (args .batch .now) (startOf (found .start-of .result)) (sent .before .before .if1 .left)
+    ∙ gone found rand s
 
 pub renew-spec : {M : Type 1} → statement M
 renew-spec =
     tie.close
     (tie.spec
-    (λ c κs. search needs) (λ c κs. search needs) (λ c κs. search needs) send-requires (λ c. search needs) returns
-    (λ c κs. search needs) (λ c κs. search needs) returns-2 send-requires-2 (λ c. search needs) returns-3)
+    (λ c κs. search needs) (λ c κs. search needs) returns (λ c κs. search needs) (λ c. search needs) returns-2)
