@@ -10,7 +10,7 @@ ghost use Rattle.auc_record.specs.Views.{aucOf, outcomeOf, answerOf};
 ghost use Rattle.auc_record.specs.Steps.{Checked, refusedWith};
 
 // The largest SEQ.
-const LIMIT: u64 = 8796093022207;
+const LIMIT: u64 = aka::LIMIT;
 
 // `seqhe` is SEQ_HE, `next` the next index.
 pub struct Auc {
@@ -94,7 +94,7 @@ pub fn check(auc: Auc, count: u64, rands: &[u8], size: usize, lent: bool) -> Out
     if rands.len() != 16 * (n as usize) {
         return Outcome::Refused(3);
     }
-    if size != 72 * (n as usize) {
+    if size != aka::VECTOR * (n as usize) {
         return Outcome::Refused(3);
     }
     if !lent {

@@ -16,7 +16,7 @@ ghost use Rattle.auc_record.specs.Views.{aucOf, outcomeOf, answerOf};
 ghost use Rattle.auc_record.specs.Steps.{sentFrom, renewed};
 
 // The largest SEQ.
-const LIMIT: u64 = 8796093022207;
+const LIMIT: u64 = aka::LIMIT;
 
 // Sends a batch of n whose SEQ follow `start`, if the last is within the limit.
 pub fn send(

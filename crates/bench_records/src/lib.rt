@@ -14,7 +14,7 @@ ghost use Rattle.bench_records.specs.Records.{keyedBy, newOf, putIn};
 const LAST_SET: u8 = 1;
 
 // The largest SEQ.
-const LIMIT: u64 = 8796093022207;
+const LIMIT: u64 = aka::LIMIT;
 
 // The last index.
 const LAST_INDEX: u64 = 31;

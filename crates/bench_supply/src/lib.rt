@@ -32,7 +32,12 @@ pub fn order(bench: Bench, count: u8, rands: [u8; 80]) -> Acted
 {
     let n = count as usize;
     let mut batch = [0u8; 360];
-    order_by(bench, count, &rands[..16 * n], &mut batch[..72 * n])
+    order_by(
+        bench,
+        count,
+        &rands[..16 * n],
+        &mut batch[..aka::VECTOR * n],
+    )
 }
 
 // The centre's answer to RAND and AUTS as the bench has them.
@@ -77,5 +82,10 @@ pub fn resync(bench: Bench, count: u8, rands: [u8; 80]) -> Acted
 {
     let n = count as usize;
     let mut batch = [0u8; 360];
-    resync_by(bench, count, &rands[..16 * n], &mut batch[..72 * n])
+    resync_by(
+        bench,
+        count,
+        &rands[..16 * n],
+        &mut batch[..aka::VECTOR * n],
+    )
 }

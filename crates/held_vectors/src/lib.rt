@@ -10,10 +10,16 @@ ghost use Rattle.aka.specs.Vlr.{allZero, mostHeld, placeSize};
 // The octets of a place.
 const SIZE: usize = aka::VECTOR;
 
-// Where XRES begins in a vector, and where it ends.
-const XRES: usize = 16;
+// Where the parts of a vector begin.
+pub const RAND: usize = 0;
 
-const CK: usize = 24;
+pub const XRES: usize = RAND + 16;
+
+pub const CK: usize = XRES + 8;
+
+pub const IK: usize = CK + 16;
+
+pub const AUTN: usize = IK + 16;
 
 fn all_zero(x: &[u8]) -> bool
     ensures { λ r. ⌜ r ≡ allZero (now (x .entry)) ⌝ }

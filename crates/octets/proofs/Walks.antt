@@ -4,13 +4,13 @@ use mathlib.Core.Bool.{Bool, false, true}
 use mathlib.Core.List.{List, [], _∷_, append-nil}
 use mathlib.Core.Logic.{_⊎_, inl, inr}
 use mathlib.Core.Path.{_≡_, ap, refl}
-use native.Mathlib.Nat.{le-refl, min-zero, suc-min-suc, zero-add, zero-min}
+use native.Mathlib.Nat.{min-zero, suc-min-suc, zero-add, zero-min}
 use native.Mathlib.Numerals.{add-one}
 use native.Mathlib.Omega.{arith}
 use borrow.Author.Tests.{ltb-false, ltb-true}
 use lib.Dec.{ltb}
 use lib.ListN.{drop, drop-of-length-le, getD, length, set, take}
-use lib.Seq.{length-take-le, paste, paste-suc, take-all, take-take}
+use lib.Seq.{paste, paste-suc, take-all}
 
 -- a number is below another, or not
 pub order : (m n : ℕ) → (m < n) ⊎ (n ≤ m)
@@ -28,10 +28,6 @@ paste-next d at s j {l} {k} {v} is place element inside more = rw (is, place, el
 -- a copy over all of a list that is as long
 pub paste-all : (d s : List ℕ) (n : ℕ) → length s ≡ n → length d ≡ n → paste d 0 s n ≡ s
 paste-all d s n p q = rw (zero-add n, take-all n s (omega arith), drop-of-length-le d {i = n} (omega arith)) (append-nil s)
-
--- a copy of a front of a list is a copy from the list
-pub paste-take : (d : List ℕ) (at : ℕ) (s : List ℕ) (n : ℕ) → n ≤ length s → paste d at (take n s) (length (take n s)) ≡ paste d at s n
-paste-take d at s n h = rw (length-take-le n s h, take-take n n s (le-refl n))
 
 -- past its end a list has nothing more
 pub take-min : (n : ℕ) (l : List ℕ) → take (min n (length l)) l ≡ take n l

@@ -9,11 +9,6 @@ ghost use mathlib.Core.Path.{_≡_};
 ghost use Rattle.aka.specs.Vlr as spec;
 ghost use Rattle.vlr_record.specs.Views.{answerOf, vlrOf};
 
-// Where CK and IK begin in a vector.
-const CK: usize = 24;
-
-const IK: usize = 40;
-
 // CK and IK are given where RES is right.
 pub fn judged(vlr: Vlr, right: bool) -> Reply
     ensures { λ r. ⌜ answerOf r ≡ spec.judged (vlrOf vlr) right ⌝ }
@@ -29,7 +24,7 @@ pub fn judged(vlr: Vlr, right: bool) -> Reply
         rand: [0; 16],
         autn: [0; 16],
         auts: [0; 14],
-        ck: held_vectors::sixteen(out, CK),
-        ik: held_vectors::sixteen(out, IK),
+        ck: held_vectors::sixteen(out, held_vectors::CK),
+        ik: held_vectors::sixteen(out, held_vectors::IK),
     }
 }

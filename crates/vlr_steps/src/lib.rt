@@ -11,9 +11,9 @@ ghost use Rattle.aka.specs.Vlr as spec;
 ghost use Rattle.vlr_record.specs.Views.{answerOf, outcomeOf, stateOf, vlrOf};
 
 // Where RAND and AUTN begin in a vector.
-const RAND: usize = 0;
+const RAND: usize = held_vectors::RAND;
 
-const AUTN: usize = 56;
+const AUTN: usize = held_vectors::AUTN;
 
 // ---- records that follow
 
