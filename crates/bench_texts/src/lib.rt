@@ -2,7 +2,7 @@
 ghost use mathlib.Core.List.{_++_};
 ghost use Prim.Native.Nat.{_+_, _≤_};
 ghost use lib.ListN.{length};
-ghost use Rattle.bench_replies.specs.Replies.{aucWord, cardWord, field, heldWord, newline, pair, spaceWord};
+ghost use Rattle.bench_replies.specs.Replies.{aucWord, cardWord, field, heldWord, leftWord, newline, pair, passWord, spaceWord, sqnText};
 ghost use Rattle.bench_replies.specs.Placing.{Placed};
 
 // Each of these puts a text at the front of `out`, which has room for it, and returns the place behind it.
@@ -14,6 +14,16 @@ pub fn put_batch(out: &mut [u8], word: &[u8], count: u64, held: u64) -> usize
 {
     let next = bench_replies::put_pair(out, 0, word, count, b" held ", held);
     bench_replies::put(out, next, b"\n")
+}
+
+pub fn put_pass(out: &mut [u8], sqn: u64, left: u64) -> usize
+    requires { ⌜ 44 ≤ length (now out) ⌝ }
+    ensures { λ r. ⌜ Placed (now (out .entry)) 0 (((passWord ++ sqnText sqn) ++ field leftWord left) ++ newline) (now (out .exit)) r ⌝ }
+{
+    let a = bench_replies::put(out, 0, b"pass ");
+    let b = bench_replies::put_sqn(out, a, sqn);
+    let c = bench_replies::put_field(out, b, b" left ", left);
+    bench_replies::put(out, c, b"\n")
 }
 
 // A word and a number, and nothing else.

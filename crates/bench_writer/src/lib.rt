@@ -16,7 +16,17 @@ fn put_reply(reply: Reply, out: &mut [u8]) -> usize
     ensures { λ r. ⌜ Placed (now (out .entry)) 0 (textOf (replyOf reply)) (now (out .exit)) r ⌝ }
 {
     match reply {
-        Reply::Pass(sqn, left) => bench_pass::put_pass(out, sqn, left),
+        Reply::KeyOk => bench_replies::put(out, 0, b"key ok\n"),
+        Reply::PutOk => bench_replies::put(out, 0, b"put ok\n"),
+        Reply::BadLine => bench_replies::put(out, 0, b"bad line\n"),
+        Reply::Stored(count, held) => bench_texts::put_batch(out, b"stored ", count, held),
+        Reply::Kept(count, held) => bench_texts::put_batch(out, b"kept ", count, held),
+        Reply::Reset(count, held) => bench_texts::put_batch(out, b"reset ", count, held),
+        Reply::Pass(sqn, left) => bench_texts::put_pass(out, sqn, left),
+        Reply::Sync => bench_replies::put(out, 0, b"sync\n"),
+        Reply::Mac => bench_replies::put(out, 0, b"mac\n"),
+        Reply::Cause(number) => bench_texts::put_numbered(out, b"cause ", number),
+        Reply::Refused(number) => bench_texts::put_numbered(out, b"refused ", number),
         Reply::Shown(seqhe, next, seqms, index) => bench_texts::put_records(
             out,
             seqhe,
@@ -24,7 +34,6 @@ fn put_reply(reply: Reply, out: &mut [u8]) -> usize
             seqms,
             index,
         ),
-        _ => bench_counts::put_short(reply, out),
     }
 }
 

@@ -2,8 +2,8 @@
 use native.Mathlib.Omega.{arith}
 use Rattle.bench_replies.proofs.PlacingLaws.{placed-both}
 use borrow.Author.Needs.{needs}
-use Rattle.bench_pass.proofs.put_pass.Statement.{statement}
-use Rattle.bench_pass.proofs.put_pass.Tie as tie
+use Rattle.bench_texts.proofs.put_pass.Statement.{statement}
+use Rattle.bench_texts.proofs.put_pass.Tie as tie
 
 returns : tie.Need-returns
 returns c =
