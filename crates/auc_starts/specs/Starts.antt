@@ -8,14 +8,17 @@ use Rattle.auc_record.specs.Views.{outcomeOf}
 use Rattle.auc_record.specs.Steps.{refusedWith, sentFrom}
 use Rattle.auc_starts.specs.declared.Start as declaredStart
 
+-- `forged`: MAC-S is wrong, and the outcome is its refusal
 pub record Start : Type 0 where
   pub forged : Bool
   pub outcome : Outcome
   pub seq : ℕ
 
+-- as the code has it
 abbrev pub startOf : declaredStart.Start → Start
 startOf s = record { forged = s .forged; outcome = outcomeOf (s .outcome); seq = s .seq }
 
+-- in range SEQ_HE is kept; otherwise it becomes SEQ_MS, where MAC-S is right
 unfoldable pub startFrom : Functions → (rand auts : Octets) (seqhe n : ℕ) → Start
 startFrom F rand auts seqhe n =
     let ms = seqMsIn 5 F rand auts in

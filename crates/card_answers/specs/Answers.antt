@@ -23,6 +23,7 @@ pub record Challenged : Type 0 where
 abbrev pub Lent : (res ck ik auts : Octets) → Type 0
 Lent res ck ik auts = (length res ≡ resSize) × (length ck ≡ ckSize) × (length ik ≡ ikSize) × (length auts ≡ autsSize)
 
+-- the test of them
 abbrev pub isLent : (res ck ik auts : Octets) → Bool
 isLent res ck ik auts = eqb (length res) resSize && eqb (length ck) ckSize && eqb (length ik) ikSize && eqb (length auts) autsSize
 
