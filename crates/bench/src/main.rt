@@ -1,8 +1,7 @@
 // The bench: a card, a centre record and a node, driven by the lines of the standard input. Each line is answered by one line.
 use bench_state::Bench;
 ghost use mathlib.Core.Path.{_≡_};
-ghost use lib.ListN.{length, take};
-ghost use Rattle.console.specs.Waiting.{waiting};
+ghost use Rattle.console.specs.Waiting.{afterPut, bufferOf};
 ghost use Rattle.bench_replies.specs.Replies.{textOf};
 ghost use Rattle.bench_state.specs.Bench.{step};
 ghost use Rattle.bench_state.specs.Views.{benchOf};
@@ -16,7 +15,7 @@ pub struct Answered {
 // Puts the answer to a line into the output buffer.
 fn answer(bench: Bench, line: &[u8], out: &mut [u8], used: usize) -> Answered
     ensures bench { λ r. ⌜ benchOf (r .bench) ≡ step (benchOf bench) (now (line .entry)) .bench ⌝ }
-    ensures bytes { λ r. ⌜ take (r .used) (now (out .exit)) ≡ waiting (length (now (out .entry))) (take used (now (out .entry))) (textOf (step (benchOf bench) (now (line .entry)) .reply)) ⌝ }
+    ensures bytes { λ r. ⌜ bufferOf (r .used) (now (out .exit)) ≡ afterPut (now (out .entry)) used (textOf (step (benchOf bench) (now (line .entry)) .reply)) ⌝ }
 {
     let mut text = [0u8; 96];
     let stepped = bench_core::step(bench, line, &mut text);

@@ -1,10 +1,9 @@
 // What programs that answer lines share: one piece of the input at a time, and an output buffer in which answers wait until it is
 // written out. No contract can say what was read or written.
 ghost use mathlib.Core.Path.{_≡_};
-ghost use Prim.Native.Nat.{_≤_};
-ghost use lib.ListN.{length, take};
+ghost use lib.ListN.{take};
 ghost use Rattle.io.specs.Counts.{Counts};
-ghost use Rattle.console.specs.Waiting.{waiting};
+ghost use Rattle.console.specs.Waiting.{afterPut, bufferOf};
 use libc::STDIN_FILENO;
 use libc::STDOUT_FILENO;
 
@@ -36,8 +35,7 @@ fn flush(out: &[u8], used: usize) {
 // Puts `answer` behind the `used` bytes that wait in `out`, and returns how many wait then. Where it has no room, what waits is
 // written out first; an answer that is larger than the buffer is written out at once. With `used` past the buffer it is full.
 pub fn put(out: &mut [u8], used: usize, answer: &[u8]) -> usize
-    ensures count { λ r. ⌜ r ≤ length (now (out .exit)) ⌝ }
-    ensures bytes { λ r. ⌜ take r (now (out .exit)) ≡ waiting (length (now (out .entry))) (take used (now (out .entry))) (now (answer .entry)) ⌝ }
+    ensures { λ r. ⌜ bufferOf r (now (out .exit)) ≡ afterPut (now (out .entry)) used (now (answer .entry)) ⌝ }
 {
     let held = front(out, used).len();
     if answer.len() <= out.len() - held {

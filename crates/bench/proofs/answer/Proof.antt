@@ -1,7 +1,6 @@
 -- `answer` puts the text of the line's answer. Assumes nothing.
 use mathlib.Core.Path.{ap, _∙_}
-use lib.ListN.{length, take}
-use Rattle.console.specs.Waiting.{waiting}
+use Rattle.console.specs.Waiting.{afterPut}
 use Rattle.bench_state.specs.Views.{benchOf}
 use Rattle.bench.proofs.Texts.{bench-is, text-is}
 use borrow.Author.Needs.{needs}
@@ -15,8 +14,8 @@ returns c =
     let args = stepped .before .before .before .before .args in
     let bench = benchOf (args .bench) in (
       bench-is bench (args .line .now) (stepped .step .ensures),
-      c .before .before .put .ensures .1
-          ∙ ap (waiting (length (args .out .now)) (take (args .used) (args .out .now))) (fronted .front .ensures ∙ text-is bench (args .line .now) (stepped .step .ensures)),
+      c .before .before .put .ensures
+          ∙ ap (afterPut (args .out .now) (args .used)) (fronted .front .ensures ∙ text-is bench (args .line .now) (stepped .step .ensures)),
     )
 
 pub answer-spec : {M : Type 1} → statement M

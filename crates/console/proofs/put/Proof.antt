@@ -1,9 +1,9 @@
 -- `put` keeps what waits: each way through it is a case of `waiting`. Assumes nothing.
-use mathlib.Core.Path.{sym, ap, _∙_}
+use mathlib.Core.Path.{ap}
 use native.Mathlib.Omega.{arith}
 use borrow.Author.Needs.{needs}
 use lib.ListN.{length, length-take}
-use Rattle.console.proofs.WaitingLaws.{at-start, behind, waiting-alone, waiting-both, waiting-none}
+use Rattle.console.proofs.WaitingLaws.{put-behind, put-alone, put-none}
 use Rattle.console.proofs.put.Statement.{statement}
 use Rattle.console.proofs.put.Tie as tie
 
@@ -18,26 +18,24 @@ part-copy-start c = omega (arith, simp length-take at (ap length (c .before .fro
 
 returns : tie.Need-returns
 returns c =
-    let entry = c .before .before .before .before .before .before .before .before .before in
-    let out = entry .args .out .now in
-    let answer = entry .args .answer .now in
+    let args = c .before .before .before .before .before .before .before .before .before .args in
     let front = c .before .before .before .before .before .front in
     let copy = c .before .before .copy in
-    let held = ap length (front .ensures) in
-    (omega (arith, simp length-take at held, c .before .out .given), rw (front .ensures, copy .ensures .0, copy .ensures .1) (behind out (entry .args .used) answer _ _) ∙ sym (waiting-both _ _ _ (omega (arith, simp length-take at held))))
+    put-behind (args .out .now) (args .used) (args .answer .now) (front .ensures) (copy .ensures .0)
+    (omega (arith, simp length-take at (ap length (front .ensures)))) (copy .ensures .1)
 
 returns-2 : tie.Need-returns-2
 returns-2 c =
-    let entry = c .before .before .before .before .before .before .before .before .before .before .before .before in
-    let answer = entry .args .answer .now in
-    let held = ap length (c .before .before .before .before .before .before .before .before .front .ensures) in
+    let flushed = c .before .before .before .before .before .before .before .before in
+    let args = flushed .before .before .before .before .args in
     let copy = c .before .before .copy2 in
-    (omega arith, rw (copy .ensures .0, copy .ensures .1) (at-start answer _) ∙ sym (waiting-alone _ _ _ (omega (arith, held)) (omega arith)))
+    put-alone (args .out .now) (args .used) (args .answer .now) (flushed .front .ensures) (copy .ensures .0) (omega arith) (omega arith) (copy .ensures .1)
 
 returns-3 : tie.Need-returns-3
 returns-3 c =
-    let held = ap length (c .before .before .before .before .before .front .ensures) in
-    (omega arith, sym (waiting-none _ _ _ (omega (arith, held)) (omega arith)))
+    let flushed = c .before .before .before .before .before in
+    let args = flushed .before .before .before .before .args in
+    put-none (args .out .now) (args .used) (args .answer .now) (flushed .front .ensures) (omega arith) (omega arith)
 
 pub put-spec : {M : Type 1} → statement M
 put-spec =
