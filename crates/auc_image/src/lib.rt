@@ -1,5 +1,5 @@
 // The packed image of an AuC's record (document 01: centre), written and read. How it lies in octets: `auc_packing`.
-use auc_packing::SQN;
+use auc_packing::COUNTERS;
 use auc_packing::fill;
 use auc_packing::unpack;
 use auc_record::Auc;
@@ -11,7 +11,7 @@ ghost use Rattle.auc_image.specs.Image.{readAnswer, unread, writeAnswer}
 ghost use Rattle.auc_image.specs.Views.{readOf};
 
 // The octets of an image.
-pub const SIZE: usize = SQN + 6;
+pub const SIZE: usize = COUNTERS + 6;
 
 // `refusal` is 0 where the record was read; otherwise the record is zero.
 pub struct Answer {

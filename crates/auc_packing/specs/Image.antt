@@ -12,15 +12,16 @@ use Rattle.image_parts.specs.Head.{headSize, seqBits, head, keysIn}
 abbrev pub amfAt : ℕ
 amfAt = headSize
 
-abbrev pub sqnAt : ℕ
-sqnAt = amfAt + amfSize
+-- SEQ_HE and the next index are as long as an SQN
+abbrev pub countersAt : ℕ
+countersAt = amfAt + amfSize
 
 abbrev pub imageSize : ℕ
-imageSize = sqnAt + sqnSize
+imageSize = countersAt + sqnSize
 
 -- the bits of the last octets
 abbrev pub bitsIn : Octets → List ℕ
-bitsIn x = digits 2 (8 * sqnSize) (decode (part sqnAt sqnSize x))
+bitsIn x = digits 2 (8 * sqnSize) (decode (part countersAt sqnSize x))
 
 module _ (w : ℕ) where
   -- SEQ_HE in 48 - w bits, then the next index in w bits

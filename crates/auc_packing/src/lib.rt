@@ -10,18 +10,18 @@ ghost use Rattle.functions.specs.Sets.{sets};
 ghost use Rattle.aka.specs.Layout.{amfSize, sqnSize};
 ghost use Rattle.aka.specs.Auc.{validAuc};
 ghost use Rattle.auc_record.specs.Views.{aucOf};
-ghost use Rattle.auc_packing.specs.Image.{amfAt, bits, image as imageOf, imageSize, readImage, sqnAt};
+ghost use Rattle.auc_packing.specs.Image.{amfAt, bits, image as imageOf, imageSize, readImage, countersAt};
 
-// Where AMF begins, and where SEQ_HE.
+// Where AMF begins, and where the counters: SEQ_HE and the next index.
 const AMF: usize = 33;
 
-pub const SQN: usize = AMF + 2;
+pub const COUNTERS: usize = AMF + 2;
 
 // SEQ_HE stands above the 5 bits of the next index.
 const INDICES: u64 = 32;
 
 // SEQ_HE of a valid record above the next index, in six octets.
-fn sqn_of(auc: Auc) -> [u8; 6]
+fn counters_of(auc: Auc) -> [u8; 6]
     requires { ⌜ validAuc 5 sets (aucOf auc) ≡ true ⌝ }
     ensures { λ r. ⌜ r ≡ encode sqnSize (number 2 (bits 5 (aucOf auc))) ⌝ }
 {
@@ -31,17 +31,17 @@ fn sqn_of(auc: Auc) -> [u8; 6]
 // Puts AMF into an image. What stands before stays.
 fn put_amf(image: &mut [u8], amf: [u8; 2])
     requires { ⌜ length (now image) ≡ imageSize ⌝ }
-    ensures { λ _. ⌜ take sqnAt (now (image .exit)) ≡ take amfAt (now (image .entry)) ++ amf ⌝ }
+    ensures { λ _. ⌜ take countersAt (now (image .exit)) ≡ take amfAt (now (image .entry)) ++ amf ⌝ }
 {
     bytes::copy(&amf, &mut image[AMF..]);
 }
 
 // Puts the last six octets into an image. What stands before stays.
-fn put_sqn(image: &mut [u8], sqn: [u8; 6])
+fn put_counters(image: &mut [u8], counters: [u8; 6])
     requires { ⌜ length (now image) ≡ imageSize ⌝ }
-    ensures { λ _. ⌜ now (image .exit) ≡ take sqnAt (now (image .entry)) ++ sqn ⌝ }
+    ensures { λ _. ⌜ now (image .exit) ≡ take countersAt (now (image .entry)) ++ counters ⌝ }
 {
-    bytes::copy(&sqn, &mut image[SQN..]);
+    bytes::copy(&counters, &mut image[COUNTERS..]);
 }
 
 // Fills an image with a valid record.
@@ -52,10 +52,10 @@ pub fn fill(auc: Auc, image: &mut [u8])
 {
     let keys = auc.keys;
     let amf = auc.amf;
-    let sqn = sqn_of(auc);
+    let counters = counters_of(auc);
     image_parts::put_head(image, keys);
     put_amf(image, amf);
-    put_sqn(image, sqn);
+    put_counters(image, counters);
 }
 
 // The AMF of an image.
@@ -67,17 +67,17 @@ fn amf_in(image: &[u8]) -> [u8; 2]
 }
 
 // The number of an image's last six octets.
-fn sqn_in(image: &[u8]) -> u64
+fn counters_in(image: &[u8]) -> u64
     requires { ⌜ length (now image) ≡ imageSize ⌝ }
-    ensures { λ r. ⌜ r ≡ decode (part sqnAt sqnSize (now (image .entry))) ⌝ }
+    ensures { λ r. ⌜ r ≡ decode (part countersAt sqnSize (now (image .entry))) ⌝ }
 {
     tokens::sqn_number([
-        image[SQN],
-        image[SQN + 1],
-        image[SQN + 2],
-        image[SQN + 3],
-        image[SQN + 4],
-        image[SQN + 5],
+        image[COUNTERS],
+        image[COUNTERS + 1],
+        image[COUNTERS + 2],
+        image[COUNTERS + 3],
+        image[COUNTERS + 4],
+        image[COUNTERS + 5],
     ])
 }
 
@@ -86,11 +86,11 @@ pub fn unpack(image: &[u8]) -> Auc
     requires { ⌜ length (now image) ≡ imageSize ⌝ }
     ensures { λ r. ⌜ aucOf r ≡ readImage 5 (now (image .entry)) ⌝ }
 {
-    let sqn = sqn_in(image);
+    let counters = counters_in(image);
     Auc {
         keys: image_parts::keys_in(image),
         amf: amf_in(image),
-        seqhe: sqn / INDICES,
-        next: (sqn % INDICES) as u8,
+        seqhe: counters / INDICES,
+        next: (counters % INDICES) as u8,
     }
 }

@@ -27,9 +27,9 @@ returns : tie.Need-returns
 returns c =
     let amf = c .before .before .before .before .before .before in
     let head = amf .before .before .before .before in
-    let sqn = head .before .before in
-    let entry = sqn .before .before .before .before in
-    c .before .before .put-sqn .ensures ∙ joined 5 (aucOf (entry .args .auc)) (head .put-head .ensures) (amf .put-amf .ensures) (sqn .sqn-of .ensures)
+    let counters = head .before .before in
+    let entry = counters .before .before .before .before in
+    c .before .before .put-counters .ensures ∙ joined 5 (aucOf (entry .args .auc)) (head .put-head .ensures) (amf .put-amf .ensures) (counters .counters-of .ensures)
 
 pub fill-spec : {M : Type 1} → statement M
 fill-spec =

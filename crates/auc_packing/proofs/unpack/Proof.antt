@@ -17,12 +17,12 @@ returns c =
     let x = c .before .before .before .before .args .image .now in
     let octets = below-part 256 35 6 x (omega arith) (λ i h. c .before .before .before .shared-slice-known .given i .fits) in
     let size = length-part 35 6 x (omega arith) in
-    let sqn = c .before .before .sqn-in .ensures in
+    let counters = c .before .before .counters-in .ensures in
     λ i. record {
       keys = c .before .keys-in .ensures i;
       amf = c .amf-in .ensures i;
-      seqhe = (ap (λ (n : ℕ). n / 32) sqn ∙ sym (first-number (part 35 6 x) size octets)) i;
-      next = (ap (λ (n : ℕ). n % 32) sqn ∙ sym (second-number (part 35 6 x) size octets)) i;
+      seqhe = (ap (λ (n : ℕ). n / 32) counters ∙ sym (first-number (part 35 6 x) size octets)) i;
+      next = (ap (λ (n : ℕ). n % 32) counters ∙ sym (second-number (part 35 6 x) size octets)) i;
     }
 
 pub unpack-spec : {M : Type 1} → statement M

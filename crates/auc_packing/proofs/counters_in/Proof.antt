@@ -1,19 +1,19 @@
--- `sqn_in` is the number of the last six octets. Assumes nothing.
+-- `counters_in` is the number of the last six octets. Assumes nothing.
 use mathlib.Core.Path.{ap, _∙_}
 use native.Mathlib.Omega.{arith}
 use Rattle.octets.specs.Octets.{decode}
 use Rattle.octets.proofs.Strings.{listed-part}
 use borrow.Author.Needs.{needs}
-use Rattle.auc_packing.proofs.sqn_in.Statement.{statement}
-use Rattle.auc_packing.proofs.sqn_in.Tie as tie
+use Rattle.auc_packing.proofs.counters_in.Statement.{statement}
+use Rattle.auc_packing.proofs.counters_in.Tie as tie
 
 returns : tie.Need-returns
 returns c =
     let entry = c .before .before .before .before .before .before .before .before in
     c .sqn-number .ensures .0 ∙ ap decode (listed-part (entry .args .image .now) 35 6 (omega arith))
 
-pub sqn-in-spec : {M : Type 1} → statement M
-sqn-in-spec =
+pub counters-in-spec : {M : Type 1} → statement M
+counters-in-spec =
     tie.close
     (tie.spec
     (λ c. search needs) (λ c. search needs) (λ c. search needs) (λ c. search needs) (λ c. search needs)

@@ -1,4 +1,4 @@
--- `sqn_of` spells the bits of SEQ_HE and of the next index. Assumes nothing.
+-- `counters_of` spells the bits of SEQ_HE and of the next index. Assumes nothing.
 use mathlib.Core.Path.{sym, ap, _∙_}
 use native.Mathlib.Omega.{arith}
 use Rattle.octets.specs.Octets.{encode}
@@ -7,8 +7,8 @@ use Rattle.aka.proofs.Outcomes.{valid-iff}
 use Rattle.auc_record.specs.Views.{aucOf}
 use Rattle.auc_packing.proofs.Bits.{one-number}
 use borrow.Author.Needs.{needs}
-use Rattle.auc_packing.proofs.sqn_of.Statement.{statement}
-use Rattle.auc_packing.proofs.sqn_of.Tie as tie
+use Rattle.auc_packing.proofs.counters_of.Statement.{statement}
+use Rattle.auc_packing.proofs.counters_of.Tie as tie
 
 mul-sqn-octets : tie.Need-mul-sqn-octets
 mul-sqn-octets c = omega (arith, valid-iff 5 sets (aucOf (c .before .args .auc)) .0 (c .before .pre) .1)
@@ -25,5 +25,5 @@ returns c =
     let valid = valid-iff 5 sets (aucOf auc) .0 (entry .pre) in
     c .sqn-octets .ensures ∙ ap (encode 6) (sym (one-number (auc .seqhe) (auc .next) (omega (arith, valid .1)) (valid .2)))
 
-pub sqn-of-spec : {M : Type 1} → statement M
-sqn-of-spec = tie.close (tie.spec mul-sqn-octets (λ c. search needs) add-sqn-octets (λ c κs. search needs) returns)
+pub counters-of-spec : {M : Type 1} → statement M
+counters-of-spec = tie.close (tie.spec mul-sqn-octets (λ c. search needs) add-sqn-octets (λ c κs. search needs) returns)
