@@ -1,5 +1,5 @@
 -- The laws of the AuC's answers, proved. Assumes nothing.
-use Prim.Native.Nat.{ℕ, _+_, _*_, _/_, _%_, _≤_, _<_}
+use Prim.Native.Nat.{ℕ, _+_, _*_, _/_, _%_, _^_, _≤_, _<_}
 use mathlib.Core.Bool.{Bool, true, false, _&&_, not, cond, and-eq-true-iff}
 use mathlib.Core.List.{[]}
 use mathlib.Core.Path.{_≡_, refl, sym, ap, ap₂, _∙_, subst}
@@ -11,13 +11,14 @@ use lib.Dec.{eqb, ltb, leb}
 use lib.ListN.{length}
 use lib.Pow.{pow-pos}
 use Rattle.octets.specs.Octets.{Octets, part, encode}
-use Rattle.aka.specs.Layout.{Vector, randSize, sqnSize, vectorSize, readAutn, mostVectors, randAt, octetsAt, vectorAt, isPlace, handedBack}
-use Rattle.aka.specs.Functions.{Keys, Functions, Family, Lengths}
-use Rattle.aka.specs.Sequence.{indices, limit, sqnOf}
-use Rattle.aka.specs.Usim.{seqIn, indIn, macRight}
+use Rattle.aka.specs.Layout.{Vector, randSize, sqnSize, vectorSize, readAutn, writeAuts, mostVectors, randAt, octetsAt, vectorAt, isPlace, handedBack}
+use Rattle.aka.specs.Functions.{Keys, Functions, Family, Lengths, dummyAmf}
+use Rattle.aka.specs.Sequence.{indices, limit, sqnOf, seqOf}
+use Rattle.aka.specs.Usim.{seqIn, indIn, macRight, makeAuts}
 use Rattle.aka.specs.Auc.{Auc, AucAnswer, newAuc, Pair, unequal, equalAt, Outcome, given, kept, reset, refused, repeated, refusalOf, firstOf, secondOf, validAuc, countOf, equalPair, lentFor, lentAll, inRange, startOf, macSRight, seqMsIn, makeVector, seqAt, after, vectorFrom, batchFrom, unlessRepeated, unlessRefused, unlessPast, answerWith, orderOutcome, order, resyncOutcome, resync}
+use Rattle.aka.specs.UsimLaws.{autsOf}
 use Rattle.aka.specs.AucLaws.{PlaceOf, Lent, Asking, Sound, Refuses, Sends, Stays, LentAll, OrderLaws, ResyncLaws, AucPromise}
-use Rattle.aka.proofs.Tokens.{length-sqn, autn-amf, autn-mac, autn-seq, autn-ind}
+use Rattle.aka.proofs.Tokens.{length-sqn, autn-amf, autn-mac, autn-seq, autn-ind, auts-mac, auts-seq}
 use Rattle.aka.proofs.Batches.{length-rand, length-batch, batch-vector}
 use Rattle.aka.proofs.Outcomes.{in-range-iff, lent-iff, lent-all-iff, valid-iff, not-refused, order-given, order-past}
 use Rattle.aka.proofs.Pairs.{earliest, all-unequal}
@@ -358,10 +359,21 @@ module _ (w : ℕ) (family : Family) (auc : Auc) (count₀ : ℕ) (rands buffer 
         subst (Renewed ms) (sym (ap₂ (λ (x : ℕ) (o : Outcome). answerWith w family auc x rands N buffer o) start is))
         (sends w family auc count₀ rands buffer s ms (rw start at (by .1)) reset)
 
+    recovered : Sound w family auc count₀ rands buffer → length rand ≡ randSize → (sqn : ℕ) → sqn < 2 ^ 48
+        → auts ≡ autsOf (family .under (auc .keys)) sqn rand → (ms ≡ seqOf w sqn) × (right ≡ true)
+    unfolding makeAuts writeAuts
+    recovered s size sqn fits e =
+        let F = family .under (auc .keys) in
+        let L = s .lawful .lengths (auc .keys) (valid-iff w family auc .0 (s .asking .valid) .0) (s .keys) in (
+          ap (seqMsIn w F rand) e ∙ auts-seq w F L sqn fits dummyAmf rand refl size,
+          ap (macSRight F rand) e ∙ auts-mac F L (encode sqnSize sqn) dummyAmf rand (length-sqn sqn) refl size refl,
+        )
+
     resync-laws : ResyncLaws w family auc count₀ rands buffer rand auts
     unfolding resync resyncOutcome unlessPast
     resync-laws = record {
       refuses = refuses w family auc count₀ rands buffer (LentAll w family auc count₀ rands buffer rand auts) test _ renewed resync-is true-test test-true;
+      recovered = recovered;
       in-range = λ a l e room. behind-four a l ∙ rw (e, le-ltb (limit w) (auc .seqhe + N) room);
       in-range6 = λ a l e past. behind-four a l ∙ rw (e, lt-ltb (limit w) (auc .seqhe + N) past);
       kept-sends = kept-sends;

@@ -11,11 +11,11 @@ use lib.Seq.{getD-set-same, getD-set-other}
 use Rattle.octets.specs.Octets.{part, Octets, Below, zeros, decode}
 use Rattle.octets.proofs.Numbers.{number-lt}
 use Rattle.octets.proofs.Xor.{length-xor}
-use Rattle.aka.specs.Layout.{randSize, autnSize, autsSize, readAutn}
+use Rattle.aka.specs.Layout.{randSize, autnSize, autsSize, readAutn, writeAuts}
 use Rattle.aka.specs.Functions.{Keys, Functions, Family, Shaped, Lawful}
 use Rattle.aka.specs.Sequence.{indices, limit}
-use Rattle.aka.specs.Usim.{Usim, UsimAnswer, newUsim, highest, seqMs, Verdict, accepted, macFailure, syncFailure, refused, refusalOf, challenge, unchanged, verdictOn, judgement, answerWith, validUsim, allWithin, sized, sqnIn, seqIn, indIn, macRight, fresh}
-use Rattle.aka.specs.UsimLaws.{Asked, Named, Fresh, OnePlace, UsimLaws, SameAnswer, UsimPromise}
+use Rattle.aka.specs.Usim.{Usim, UsimAnswer, newUsim, highest, seqMs, sqnMs, Verdict, accepted, macFailure, syncFailure, refused, refusalOf, challenge, unchanged, verdictOn, judgement, answerWith, validUsim, allWithin, sized, sqnIn, seqIn, indIn, macRight, fresh, makeAuts}
+use Rattle.aka.specs.UsimLaws.{autsOf, Asked, Named, Fresh, OnePlace, UsimLaws, SameAnswer, UsimPromise}
 use Rattle.octets.proofs.Parts.{length-part}
 use Rattle.octets.proofs.Ranges.{below-part, below-xor}
 use Rattle.aka.proofs.Sequence.{seq-le}
@@ -105,6 +105,10 @@ module _ (w : ℕ) (family : Family) (usim : Usim) (rand autn : Octets) where
   no-auts-with syncFailure h = absurd (h refl)
   no-auts-with (refused number) h = refl
 
+  auts-is : answer .verdict ≡ syncFailure → answer .auts ≡ autsOf F (sqnMs w usim) rand
+  unfolding makeAuts writeAuts
+  auts-is e = ap (λ (x : UsimAnswer). x .auts) (known.sync-answer w family usim rand autn e)
+
   laws : UsimLaws w family usim rand autn
   unfolding answerWith challenge
   laws = record {
@@ -116,6 +120,7 @@ module _ (w : ℕ) (family : Family) (usim : Usim) (rand autn : Octets) where
     number0 = λ a. none (answer .verdict) (answered a);
     mac-wrong = λ a wrong. known.mac-wrong w family usim rand autn (a .valid) (lengths a) wrong;
     not-fresh = λ a right h. known.mac-right w family usim rand autn (a .valid) (lengths a) right ∙ rw (not-new h);
+    auts = auts-is;
     fresh = λ a right h. known.mac-right w family usim rand autn (a .valid) (lengths a) right ∙ rw (known.fresh-iff (usim .places) (seqIn w F rand autn) (indIn w F rand autn) .1 h);
     stored = one-place;
     res = λ e. ap (λ (x : UsimAnswer). x .res) (is-accepted e);

@@ -1,6 +1,6 @@
 -- What the AuC's answers promise, sentence by sentence of document 01, 'What the centre does'. These laws rule out its 'Slips that look right',
 -- and the centres that it shuts out by name. Assumes nothing.
-use Prim.Native.Nat.{ℕ, suc, _+_, _*_, _≤_, _<_}
+use Prim.Native.Nat.{ℕ, suc, _+_, _*_, _^_, _≤_, _<_}
 use mathlib.Core.Bool.{Bool, true, false}
 use mathlib.Core.List.{[]}
 use mathlib.Core.Logic.{_⊎_, _↔_}
@@ -9,8 +9,9 @@ use lib.ListN.{length}
 use Rattle.octets.specs.Octets.{Octets, part}
 use Rattle.aka.specs.Layout.{Vector, randSize, amfSize, autsSize, vectorSize, randAt, readAutn, vectorAt, handedBack}
 use Rattle.aka.specs.Functions.{Keys, Functions, Family, Shaped, Lawful}
-use Rattle.aka.specs.Sequence.{D, indices, limit}
+use Rattle.aka.specs.Sequence.{D, indices, limit, seqOf}
 use Rattle.aka.specs.Usim.{seqIn, indIn, macRight}
+use Rattle.aka.specs.UsimLaws.{autsOf}
 use Rattle.aka.specs.Auc.{Auc, AucAnswer, newAuc, unequal, equalAt, given, kept, reset, refused, repeated, refusalOf, firstOf, secondOf, validAuc, countOf, equalPair, inRange, macSRight, seqMsIn, order, resync}
 
 -- 'the earliest pair of equal challenges (smallest first place, then second, from 0)'
@@ -148,6 +149,8 @@ module _ (w : ℕ) (family : Family) (auc : Auc) (count : ℕ) (rands buffer : O
 
     pub record ResyncLaws : Type 0 where
       pub refuses : Refuses LentAll renewed
+      -- 'recover SQN_MS', from the AUTS of a card with the same keys; its MAC-S is right
+      pub recovered : Sound → length rand ≡ randSize → (sqn : ℕ) → sqn < 2 ^ 48 → auts ≡ autsOf F sqn rand → (ms ≡ seqOf w sqn) × (right ≡ true)
       -- 'In range: batch as usual, MAC-S not looked at.'
       pub in-range : Asking → LentAll → range ≡ true → auc .seqhe + n ≤ limit w → renewed .outcome ≡ kept
       pub in-range6 : Asking → LentAll → range ≡ true → limit w < auc .seqhe + n → renewed .outcome ≡ refused 6

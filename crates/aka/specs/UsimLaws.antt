@@ -2,14 +2,19 @@
 -- and the cards that it shuts out by name. Assumes nothing.
 use Prim.Native.Nat.{ℕ, _+_, _≤_, _<_}
 use mathlib.Core.Bool.{true, false}
+use mathlib.Core.List.{[], _∷_, _++_}
 use mathlib.Core.Logic.{_↔_}
 use mathlib.Core.Path.{_≡_}
 use lib.ListN.{length, getD}
-use Rattle.octets.specs.Octets.{Octets, Below, zeros}
+use Rattle.octets.specs.Octets.{Octets, Below, zeros, xor, encode}
 use Rattle.aka.specs.Layout.{randSize, autnSize, autsSize}
 use Rattle.aka.specs.Functions.{Keys, Functions, Family, Shaped, Lawful}
 use Rattle.aka.specs.Sequence.{D, indices, limit, seqOf, indOf}
 use Rattle.aka.specs.Usim.{Usim, UsimAnswer, newUsim, accepted, macFailure, syncFailure, refused, refusalOf, challenge, unchanged, validUsim, seqIn, indIn, macRight, seqMs, sqnMs}
+
+-- 'AUTS is SQN_MS xor AK* (6), MAC-S (8)': AK* is f5* of RAND, and MAC-S is 'f1* of SQN_MS, RAND and an AMF of two zero bytes'
+abbrev pub autsOf : Functions → (sqn : ℕ) (rand : Octets) → Octets
+autsOf F sqn rand = xor (encode 6 sqn) (F .f5* rand) ++ F .f1* (encode 6 sqn) rand (0 ∷ 0 ∷ [])
 
 -- ---- one challenge, of any octets
 
@@ -60,6 +65,7 @@ module _ (w : ℕ) (family : Family) (usim : Usim) (rand autn : Octets) where
     pub mac-wrong : Asked → macRight F rand autn ≡ false → answer .verdict ≡ macFailure
     -- 'Then freshness. If not, synchronisation failure with AUTS. Otherwise accepted'
     pub not-fresh : Asked → macRight F rand autn ≡ true → (Fresh → ⊥) → answer .verdict ≡ syncFailure
+    pub auts : answer .verdict ≡ syncFailure → answer .auts ≡ autsOf F (sqnMs w usim) rand
     pub fresh : Asked → macRight F rand autn ≡ true → Fresh → answer .verdict ≡ accepted
     -- 'that one place becomes SEQ, and RES, CK, IK are given'
     pub stored : answer .verdict ≡ accepted → OnePlace
