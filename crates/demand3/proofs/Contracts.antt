@@ -1,0 +1,23 @@
+-- What the contracts of `usim::challenge` and `auc::resynchronise` say of an answer is what `Running` takes of it: a contract that said less would
+-- be refused here. Assumes nothing.
+use contract.Lifetimes.{Lfts}
+use borrow.Fn.Kinds.{endedOf}
+use borrow.Fn.World.{ArgsD, ResD}
+use denote.Ref.{now}
+use denote.Triple.Clauses.{AtExit}
+use Rattle.usim.proofs.challenge as challenge
+use Rattle.usim.proofs.challenge.Kinds as challengeKinds
+use Rattle.usim.proofs.challenge.Reads as challengeReads
+use Rattle.auc.proofs.resynchronise as resynchronise
+use Rattle.auc.proofs.resynchronise.Kinds as resynchroniseKinds
+use Rattle.auc.proofs.resynchronise.Reads as resynchroniseReads
+use Rattle.demand3.specs.Running.{Answered, Renewed}
+
+pub card : (κs : Lfts 2) (a : ArgsD challenge.signature κs) (answer : ResD challenge.signature κs) (s : AtExit (endedOf 2 challengeKinds.ps challengeKinds.r) κs)
+    → challengeReads.Post κs a answer s → Answered (a .0) (now (a .1 .0)) (now (a .1 .1 .0)) answer
+card κs a answer s p = p .0
+
+pub centre : (κs : Lfts 4) (a : ArgsD resynchronise.signature κs) (answer : ResD resynchronise.signature κs)
+    (s : AtExit (endedOf 4 resynchroniseKinds.ps resynchroniseKinds.r) κs) → resynchroniseReads.Post κs a answer s
+    → Renewed (a .0) (a .1 .0) (now (a .1 .1 .1 .1 .0)) (now (a .1 .1 .1 .1 .1 .0)) (now (a .1 .1 .0)) (now (a .1 .1 .1 .0)) answer (now (s .1 .1 .1 .1 .1 .0))
+centre κs a answer s p = p
