@@ -50,7 +50,8 @@ pub fn only(word: Word) -> Command
     }
 }
 
-// Reads the field at a place: a space and the hex of as many octets as `out` has. Whether it is there. The line goes on that far.
+// Reads the field at a place: a space and the hex of as many octets as `out` has. Whether it is there; where it is not, nothing is said of
+// `out`. The line goes on that far.
 pub fn hex_field(line: &[u8], at: usize, out: &mut [u8]) -> bool
     requires { ⌜ at + 1 + 2 * length (now out) ≤ length (now line) ⌝ }
     ensures answer { λ r. ⌜ r ≡ hexField (length (now (out .entry))) at (now (line .entry)) ⌝ }
@@ -81,7 +82,8 @@ pub fn count_at(line: &[u8], at: usize) -> u8
     c - b'0'
 }
 
-// Reads `n` RANDs, from a place of the line on, into the front of `out`. Whether they are there. Line and `out` go on that far.
+// Reads `n` RANDs, from a place of the line on, into the front of `out`. Whether they are there; where they are not,
+// nothing is said of `out`. Line and `out` go on that far.
 pub fn read_rands(line: &[u8], from: usize, n: usize, out: &mut [u8]) -> bool
     requires line { ⌜ from + 33 * n ≤ length (now line) ⌝ }
     requires out { ⌜ 16 * n ≤ length (now out) ⌝ }

@@ -28,7 +28,7 @@ fn put_key(image: &mut [u8], at: usize, key: [u8; 16])
     bytes::copy(&key, &mut image[at..]);
 }
 
-// Puts the head of a record of a known set into an image.
+// Puts the head of a record of a known set into an image. Nothing is said of what stands behind it, which the caller puts next.
 pub fn put_head(image: &mut [u8], keys: Keys)
     requires size { ⌜ headSize ≤ length (now image) ⌝ }
     requires known { ⌜ sets .known (keys .set) ≡ true ⌝ }

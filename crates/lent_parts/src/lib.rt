@@ -42,7 +42,7 @@ fn alike(rands: &[u8], i: u8, j: u8) -> bool
     same(&rands[p..p + 16], &rands[q..q + 16])
 }
 
-// The earliest pair of equal RANDs.
+// The earliest pair of equal RANDs. Where there is none, nothing is said of the places.
 pub fn equal_pair(rands: &[u8], n: u8) -> Pair
     requires { ⌜ (n ≤ 5) × (length (now rands) ≡ 16 * n) ⌝ }
     ensures { λ r. ⌜ pairOf r ≡ equalPair (now (rands .entry)) n ⌝ }

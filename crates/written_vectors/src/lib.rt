@@ -56,7 +56,8 @@ fn put_parts(
     put(batch, at + 56, &autn);
 }
 
-// Puts the vector of a RAND taken up into a batch, from `at` on. What stands before stays.
+// Puts the vector of a RAND taken up into a batch, from `at` on. What stands before stays; nothing is said of what stands behind, where the next
+// vector goes.
 pub fn put_vector(
     t: &[u32; 256],
     w: &[u32; 44],
