@@ -129,6 +129,6 @@ fn vector_at(k: u64, [batch]: [&mut [u8]; 1]) -> Result<Answer, Refused> {
         return Err(BAD_LENGTH.into());
     }
     Ok(done(
-        (vector.as_ptr().addr() - batch.as_ptr().addr()) as u64,
+        (vector.as_ptr() as usize - batch.as_ptr() as usize) as u64,
     ))
 }

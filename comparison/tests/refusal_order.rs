@@ -48,6 +48,12 @@ fn answer_with(function: Function, number: u64, buffers: &mut [Vec<u8>], refusal
     }
 }
 
+/// What is noticed below is the refusal, and nothing else.
+#[test]
+fn in_the_right_order_all_agree() {
+    assert!(!is_noticed(|_, _, _| 0));
+}
+
 #[test]
 fn size_before_set() {
     assert!(is_noticed(|function, _, lent| match function {
