@@ -1,0 +1,92 @@
+-- The theorem is not empty. Document 01's sample run is over, its challenge comes to the card again, and the centre has lost its record and begins
+-- anew: SEQ_HE is behind and is reset. Assumes nothing.
+use Prim.Native.Nat.{ℕ}
+use mathlib.Core.Bool.{true}
+use mathlib.Core.List.{List, [], _∷_, _++_}
+use mathlib.Core.Path.{_≡_, refl}
+use native.Mathlib.Omega.{arith}
+use lib.ListN.{set}
+use Rattle.octets.specs.Octets.{Octets, zeros, xor, equal, turnLeft, digits, spelt}
+use Rattle.functions.specs.Sets.{sets, testSet, testX}
+use Rattle.functions.specs.declared.Keys.{Keys}
+use Rattle.aka.specs.Layout.{writeAutn, readAutn, writeAuts, readAuts, writeVector, readVector, joined}
+use Rattle.aka.specs.Usim.{challenge, verdictOn, judgement, answerWith, validUsim, sized, macRight, fresh, highest, lowestIndex, allWithin, makeAuts}
+use Rattle.aka.specs.Auc.{validAuc, makeAutn, makeVector, batchFrom, pairWith, pairFrom, lentFor, lentAll, unlessRefused, unlessPast, inRange, macSRight, resyncOutcome, resync}
+use Rattle.aka.specs.Auc as auc
+use Rattle.aka.specs.Demand3 as aka
+use Rattle.usim_record.specs.declared.Usim.{Usim}
+use Rattle.usim_record.specs.declared.Answer as card
+use Rattle.usim_record.specs.declared.Verdict.the-variants.{Sync}
+use Rattle.auc_record.specs.declared.Auc.{Auc}
+use Rattle.auc_record.specs.declared.Answer as centre
+use Rattle.auc_record.specs.declared.Outcome.the-variants.{Reset}
+use Rattle.auc_record.specs.Views.{aucOf}
+use Rattle.demand3.specs.Running.{Setting, Ran, settingOf, Conclusion}
+use Rattle.demand3.proofs.Running.{running}
+
+abbrev keys : Keys
+keys = record { set = 0; k = 0 ∷ 1 ∷ 2 ∷ 3 ∷ 4 ∷ 5 ∷ 6 ∷ 7 ∷ 8 ∷ 9 ∷ 10 ∷ 11 ∷ 12 ∷ 13 ∷ 14 ∷ 15 ∷ []; opc = zeros 16 }
+
+abbrev usim : Usim
+usim = record { keys = keys; places = set (zeros 32) 0 1 }
+
+abbrev autn : Octets
+autn = 0x03 ∷ 0x04 ∷ 0x05 ∷ 0x06 ∷ 0x07 ∷ 0x28 ∷ 0x00 ∷ 0x01 ∷ 0x00 ∷ 0x01 ∷ 0x02 ∷ 0x03 ∷ 0x04 ∷ 0x25 ∷ 0x06 ∷ 0x06 ∷ []
+
+abbrev auts : Octets
+auts = 0x03 ∷ 0x04 ∷ 0x05 ∷ 0x06 ∷ 0x07 ∷ 0x28 ∷ 0x00 ∷ 0x01 ∷ 0x02 ∷ 0x03 ∷ 0x04 ∷ 0x25 ∷ 0x06 ∷ 0x07 ∷ []
+
+abbrev failure : card.Answer
+failure = record { verdict = Sync; usim = usim; res = zeros 8; ck = zeros 16; ik = zeros 16; auts = auts }
+
+abbrev aucWith : (seqhe next : ℕ) → Auc
+aucWith seqhe next = record { keys = keys; amf = 0 ∷ 1 ∷ []; seqhe = seqhe; next = next }
+
+abbrev renewal : centre.Answer
+renewal = record { outcome = Reset; n = 2; auc = aucWith 3 1 }
+
+-- two RANDs
+abbrev rands : Octets
+rands = zeros 16 ++ (1 ∷ zeros 15)
+
+abbrev buffer : Octets
+buffer = zeros 144
+
+abbrev lost : Setting
+lost = record {
+  usim = usim;
+  rand = zeros 16;
+  autn = autn;
+  failure = failure;
+  auc = aucWith 0 0;
+  count = 2;
+  rands = rands;
+  buffer = buffer;
+  renewal = renewal;
+  batch = resync 5 sets (aucOf (aucWith 0 0)) 2 rands buffer (zeros 16) auts .batch;
+}
+
+ran : Ran lost
+unfolding sets testSet testX challenge verdictOn judgement answerWith validUsim sized macRight fresh highest lowestIndex allWithin makeAuts makeAutn writeAutn readAutn writeAuts readAuts xor equal digits spelt pairFrom pairWith validAuc auc.answerWith lentFor lentAll unlessRefused unlessPast inRange macSRight resyncOutcome resync batchFrom makeVector writeVector readVector joined turnLeft
+ran = record { failure = refl; renewal = refl }
+
+premise : aka.Premise 5 sets (settingOf lost)
+unfolding sets testSet testX challenge verdictOn judgement answerWith validUsim sized macRight fresh highest lowestIndex allWithin makeAuts makeAutn writeAutn readAutn writeAuts readAuts xor equal digits spelt pairFrom pairWith validAuc turnLeft
+premise = record {
+  usim-valid = refl;
+  usim-places = refl;
+  usim-keys = record { k = refl; opc = refl };
+  auc-valid = refl;
+  auc-amf = refl;
+  same-keys = refl;
+  count = omega arith;
+  rands = refl;
+  buffer = refl;
+  unequal-rands = refl;
+  room-ms = omega arith;
+  room-he = omega arith;
+  failed = refl;
+}
+
+pub lost-is-found : Conclusion lost
+lost-is-found = running lost ran premise
