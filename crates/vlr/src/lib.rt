@@ -118,5 +118,6 @@ pub fn abandon(vlr: Vlr) -> Reply
     if number != 0 {
         return plain(Outcome::Refused(number), vlr);
     }
-    plain(Outcome::Done, moved(State::Idle, vlr))
+    let idle = moved(State::Idle, vlr);
+    plain(Outcome::Done, idle)
 }
