@@ -10,7 +10,7 @@ use Rattle.octets.specs.Octets.{Octets, xor, equal, encode}
 use Rattle.octets.proofs.Xor.{length-xor, xor-twice}
 use Rattle.aka.specs.Layout.{Autn, sqnSize, macSize, writeAutn, randAt}
 use Rattle.aka.specs.Functions.{Functions, Family, Lengths, Lawful, dummyAmf}
-use Rattle.aka.specs.Sequence.{limit, sqnOf}
+use Rattle.aka.specs.Sequence.{limit, sqnOf, width}
 use Rattle.aka.specs.Usim.{Usim, UsimAnswer, accepted, macFailure, syncFailure, highest, lowestIndex, allWithin, validUsim, fresh, macRight, makeAuts, sqnMs}
 use Rattle.aka.specs.Auc.{AucAnswer, given, kept, reset, refused, validAuc, inRange, startOf, seqMsIn, makeVector, seqAt, after, batchFrom}
 use Rattle.aka.specs.Demand3.{vectorSeq}
@@ -33,37 +33,37 @@ module _ (family : Family) (lawful : Lawful family) (x : Sample) (p : Proper fam
 
   -- ---- the USIM
 
-  new-valid : validUsim 5 family (usimWith family x new) ≡ true
+  new-valid : validUsim width family (usimWith family x new) ≡ true
   unfolding validUsim allWithin
   new-valid = rw (p .known)
 
-  used-valid : validUsim 5 family (usimWith family x used) ≡ true
+  used-valid : validUsim width family (usimWith family x used) ≡ true
   unfolding validUsim allWithin
   used-valid = rw (p .known)
 
-  verdict : (places : List ℕ) → validUsim 5 family (usimWith family x places) ≡ true → (seq ind : ℕ) → seq ≤ limit 5 → ind < 32
+  verdict : (places : List ℕ) → validUsim width family (usimWith family x places) ≡ true → (seq ind : ℕ) → seq ≤ limit width → ind < 32
       → asked family x places seq ind .verdict ≡ cond (not (fresh places seq ind)) syncFailure accepted
-  verdict places valid seq ind hq hi = made-verdict 5 (omega arith) family (usimWith family x places) L valid seq ind hq hi (x .amf) (x .rand) (p .amf) (p .rand)
+  verdict places valid seq ind hq hi = made-verdict width (omega arith) family (usimWith family x places) L valid seq ind hq hi (x .amf) (x .rand) (p .amf) (p .rand)
 
   -- a second place that holds 10 leaves index 3 the lowest
-  row7-kept : sqnMs 5 (asked family x used 10 4 .usim) ≡ sqnOf 5 10 3
+  row7-kept : sqnMs width (asked family x used 10 4 .usim) ≡ sqnOf width 10 3
   unfolding fresh highest lowestIndex
   row7-kept =
-      ap (λ (a : UsimAnswer). sqnMs 5 (a .usim))
-      (made-accepted 5 (omega arith) family (usimWith family x used) L used-valid 10 4 (omega arith) (omega arith) (x .amf) (x .rand) (p .amf) (p .rand) refl)
+      ap (λ (a : UsimAnswer). sqnMs width (a .usim))
+      (made-accepted width (omega arith) family (usimWith family x used) L used-valid 10 4 (omega arith) (omega arith) (x .amf) (x .rand) (p .amf) (p .rand) refl)
 
   module _ (mac : Octets) (hm : length mac ≡ macSize) (ne : mac ≡ F .f1 (sqnWith family x 10 3) (x .rand) (x .amf) → ⊥) where
     abbrev sqn : Octets
     sqn = sqnWith family x 10 3
 
     under-ak : length sqn ≤ length (F .f5 (x .rand))
-    under-ak = omega (arith, L .f5 (x .rand) (p .rand), length-sqn (sqnOf 5 10 3))
+    under-ak = omega (arith, L .f5 (x .rand) (p .rand), length-sqn (sqnOf width 10 3))
 
     abbrev fields : Autn
     fields = record { concealed = xor sqn (F .f5 (x .rand)); amf = x .amf; mac = mac }
 
     fields-sized : AutnSized fields
-    fields-sized = record { concealed = length-xor sqn (F .f5 (x .rand)) under-ak ∙ length-sqn (sqnOf 5 10 3); amf = p .amf; mac = hm }
+    fields-sized = record { concealed = length-xor sqn (F .f5 (x .rand)) under-ak ∙ length-sqn (sqnOf width 10 3); amf = p .amf; mac = hm }
 
     wrong : macRight F (x .rand) (writeAutn fields) ≡ false
     unfolding macRight
@@ -73,45 +73,45 @@ module _ (family : Family) (lawful : Lawful family) (x : Sample) (p : Proper fam
         ∙ unequal-false mac (F .f1 sqn (x .rand) (x .amf)) ne
 
     mac-row : askedWith family x mac used 10 3 .verdict ≡ macFailure
-    mac-row = mac-wrong 5 family (usimWith family x used) (x .rand) (writeAutn fields) used-valid (true-sized (x .rand) (writeAutn fields) (p .rand) (length-autn fields fields-sized)) wrong
+    mac-row = mac-wrong width family (usimWith family x used) (x .rand) (writeAutn fields) used-valid (true-sized (x .rand) (writeAutn fields) (p .rand) (length-autn fields fields-sized)) wrong
 
   -- ---- the AuC
 
-  auc-valid : (he : ℕ) → he ≤ limit 5 → validAuc 5 family (aucWith family x he) ≡ true
+  auc-valid : (he : ℕ) → he ≤ limit width → validAuc width family (aucWith family x he) ≡ true
   unfolding validAuc
-  auc-valid he h = rw (p .known, le-leb he (limit 5) h, lt-ltb (x .next) 32 (p .next))
+  auc-valid he h = rw (p .known, le-leb he (limit width) h, lt-ltb (x .next) 32 (p .next))
 
-  order-row : (he : ℕ) → he + 5 ≤ limit 5 → ordered family x he .outcome ≡ given
+  order-row : (he : ℕ) → he + 5 ≤ limit width → ordered family x he .outcome ≡ given
   order-row he h = ap (λ (a : AucAnswer). a .outcome)
-      (order-given 5 family (aucWith family x he) 5 (x .rands) (x .buffer) (auc-valid he (omega arith)) (omega arith) (p .rands) (p .buffer) (p .unequal-rands) h)
+      (order-given width family (aucWith family x he) 5 (x .rands) (x .buffer) (auc-valid he (omega arith)) (omega arith) (p .rands) (p .buffer) (p .unequal-rands) h)
 
-  past-row : (he : ℕ) → he ≤ limit 5 → limit 5 < he + 5 → ordered family x he .outcome ≡ refused 6
-  past-row he h past = order-past 5 family (aucWith family x he) 5 (x .rands) (x .buffer) (auc-valid he h) (omega arith) (p .rands) (p .buffer) (p .unequal-rands) past
+  past-row : (he : ℕ) → he ≤ limit width → limit width < he + 5 → ordered family x he .outcome ≡ refused 6
+  past-row he h past = order-past width family (aucWith family x he) 5 (x .rands) (x .buffer) (auc-valid he h) (omega arith) (p .rands) (p .buffer) (p .unequal-rands) past
 
   abbrev usim100 : Usim
   usim100 = usimWith family x (x .places100)
 
-  valid100 : validUsim 5 family usim100 ≡ true
+  valid100 : validUsim width family usim100 ≡ true
   unfolding validUsim
-  valid100 = rw (p .known, within-iff (limit 5) (x .places100) .1 (λ i. omega (arith, place-le (x .places100) i, p .places100-highest)))
+  valid100 = rw (p .known, within-iff (limit width) (x .places100) .1 (λ i. omega (arith, place-le (x .places100) i, p .places100-highest)))
 
   abbrev auts : Octets
-  auts = makeAuts F (encode sqnSize (sqnMs 5 usim100)) dummyAmf (x .rand)
+  auts = makeAuts F (encode sqnSize (sqnMs width usim100)) dummyAmf (x .rand)
 
-  has : seqMsIn 5 F (x .rand) auts ≡ 100
-  has = auts-has 5 (omega arith) family usim100 L valid100 (p .places100-size) (x .rand) (p .rand) ∙ p .places100-highest
+  has : seqMsIn width F (x .rand) auts ≡ 100
+  has = auts-has width (omega arith) family usim100 L valid100 (p .places100-size) (x .rand) (p .rand) ∙ p .places100-highest
 
-  module _ (he : ℕ) (h : he ≤ limit 5) (room : startOf he 100 5 + 5 ≤ limit 5) where
+  module _ (he : ℕ) (h : he ≤ limit width) (room : startOf he 100 5 + 5 ≤ limit width) where
     resync-row : resynced family x he ≡ record {
       outcome = cond (inRange he 100 5) kept reset;
       n = 5;
-      auc = after 5 (aucWith family x he) (startOf he 100 5) 5;
-      batch = batchFrom 5 family (aucWith family x he) (startOf he 100 5) (x .rands) 5;
+      auc = after width (aucWith family x he) (startOf he 100 5) 5;
+      batch = batchFrom width family (aucWith family x he) (startOf he 100 5) (x .rands) 5;
     }
     resync-row =
-        resync-sent 5 family (aucWith family x he) 5 (x .rands) (x .buffer) (auc-valid he h) (omega arith) (p .rands) (p .buffer) (p .unequal-rands) (x .rand) auts (p .rand)
-        (auts-is-long 5 (omega arith) family usim100 L valid100 (p .places100-size) (x .rand) (p .rand))
-        (rw (has, auts-is-right 5 (omega arith) family usim100 L valid100 (p .places100-size) (x .rand) (p .rand)) (or-true (inRange he 100 5)))
+        resync-sent width family (aucWith family x he) 5 (x .rands) (x .buffer) (auc-valid he h) (omega arith) (p .rands) (p .buffer) (p .unequal-rands) (x .rand) auts (p .rand)
+        (auts-is-long width (omega arith) family usim100 L valid100 (p .places100-size) (x .rand) (p .rand))
+        (rw (has, auts-is-right width (omega arith) family usim100 L valid100 (p .places100-size) (x .rand) (p .rand)) (or-true (inRange he 100 5)))
         (rw has room)
         ∙ rw has
 
@@ -119,8 +119,8 @@ module _ (family : Family) (lawful : Lawful family) (x : Sample) (p : Proper fam
     unfolding makeVector
     first-row e =
         ap (λ (a : AucAnswer). firstSeq family x a) resync-row
-        ∙ ap (vectorSeq 5 F) (batch-vector 5 family (aucWith family x he) L (p .amf) (startOf he 100 5) (x .rands) 5 (p .rands) 0 (omega arith))
-        ∙ autn-seq 5 (omega arith) F L (seqAt (startOf he 100 5) 0) (x .next) (omega (arith, e)) (p .next) (x .amf) (randAt (x .rands) 0) (p .amf) (length-rand (x .rands) 5 (p .rands) 0 (omega arith))
+        ∙ ap (vectorSeq width F) (batch-vector width family (aucWith family x he) L (p .amf) (startOf he 100 5) (x .rands) 5 (p .rands) 0 (omega arith))
+        ∙ autn-seq width (omega arith) F L (seqAt (startOf he 100 5) 0) (x .next) (omega (arith, e)) (p .next) (x .amf) (randAt (x .rands) 0) (p .amf) (length-rand (x .rands) 5 (p .rands) 0 (omega arith))
         ∙ omega (arith, e)
 
   table : Table family x

@@ -10,7 +10,7 @@ use lib.ListN.{replicate, set}
 use Rattle.octets.specs.Octets.{Octets, xor, part, equal, turnLeft, encode, digits, spelt}
 use Rattle.aka.specs.Layout.{vectorAt, writeAutn, readAutn, writeAuts, readAuts, writeVector, readVector, joined}
 use Rattle.aka.specs.Functions.{Keys, Shaped}
-use Rattle.aka.specs.Sequence.{sqnOf}
+use Rattle.aka.specs.Sequence.{sqnOf, width}
 use Rattle.aka.specs.Usim.{Usim, UsimAnswer, accepted, macFailure, syncFailure, refused, challenge, verdictOn, judgement, answerWith, validUsim, sized, macRight, fresh, highest, lowestIndex, allWithin, makeAuts}
 use Rattle.aka.specs.Auc.{unequal, kept, reset, validAuc, makeAutn, makeVector, batchFrom, pairWith, pairFrom, equalPair, lentFor, lentAll, unlessRefused, unlessPast, inRange, macSRight, resyncOutcome, resync}
 use Rattle.aka.specs.Auc as auc
@@ -39,7 +39,7 @@ usimWith places = record { keys = keys; places = places }
 
 -- AUTN of SEQ and IND, with AMF 0001
 abbrev autnWith : (seq ind : ℕ) → Octets
-autnWith seq ind = makeAutn (testSet key) (encode 6 (sqnOf 5 seq ind)) (0 ∷ 1 ∷ []) rand
+autnWith seq ind = makeAutn (testSet key) (encode 6 (sqnOf width seq ind)) (0 ∷ 1 ∷ []) rand
 
 -- ---- a USIM with SEQ_MS 10, an old challenge to it, and an AuC with this SEQ_HE
 
@@ -56,10 +56,10 @@ lost seqhe = record {
 
 -- calls: the two vectors of the new batch in turn; between them the first once more, and an AUTN of no octets
 abbrev callOf : (k : ℕ) → Call
-callOf k = record { rand = vectorAt (renewal 5 testSets (lost 1) .batch) k .rand; autn = vectorAt (renewal 5 testSets (lost 1) .batch) k .autn }
+callOf k = record { rand = vectorAt (renewal width testSets (lost 1) .batch) k .rand; autn = vectorAt (renewal width testSets (lost 1) .batch) k .autn }
 
 abbrev walk : List Step
-walk = stepsOf 5 testSets (lost 1) (callOf 0 ∷ callOf 0 ∷ record { rand = rand; autn = [] } ∷ callOf 1 ∷ [])
+walk = stepsOf width testSets (lost 1) (callOf 0 ∷ callOf 0 ∷ record { rand = rand; autn = [] } ∷ callOf 1 ∷ [])
 
 -- ---- a sample of the worked table
 
@@ -77,10 +77,10 @@ sample = record {
 -- ---- the sample run of document 01: SQN 000000000020 to a new USIM, and the same challenge again
 
 abbrev first : UsimAnswer
-first = challenge 5 testSets (usimWith new) rand (autnWith 1 0)
+first = challenge width testSets (usimWith new) rand (autnWith 1 0)
 
 abbrev again : UsimAnswer
-again = challenge 5 testSets (first .usim) rand (autnWith 1 0)
+again = challenge width testSets (first .usim) rand (autnWith 1 0)
 
 -- ---- what computes
 
@@ -93,15 +93,15 @@ pub record Computed : Type 0 where
   -- each verdict occurs: accepted, synchronisation failure, and MAC failure where the MAC is zeros
   pub is-accepted : first .verdict ≡ accepted
   pub is-sync : again .verdict ≡ syncFailure
-  pub is-mac : challenge 5 testSets (usimWith used) rand (part 0 8 (autnWith 10 3) ++ replicate 8 0) .verdict ≡ macFailure
+  pub is-mac : challenge width testSets (usimWith used) rand (part 0 8 (autnWith 10 3) ++ replicate 8 0) .verdict ≡ macFailure
   -- SEQ_HE 12 is kept, 1 is reset
-  pub usim-valid : validUsim 5 testSets (usimWith used) ≡ true
-  pub failed : (seqhe : ℕ) → failure 5 testSets (lost seqhe) .verdict ≡ syncFailure
+  pub usim-valid : validUsim width testSets (usimWith used) ≡ true
+  pub failed : (seqhe : ℕ) → failure width testSets (lost seqhe) .verdict ≡ syncFailure
   pub unequal2 : equalPair (lost 1 .rands) 2 ≡ unequal
-  pub valid12 : validAuc 5 testSets (lost 12 .auc) ≡ true
-  pub kept12 : renewal 5 testSets (lost 12) .outcome ≡ kept
-  pub valid1 : validAuc 5 testSets (lost 1 .auc) ≡ true
-  pub reset1 : renewal 5 testSets (lost 1) .outcome ≡ reset
+  pub valid12 : validAuc width testSets (lost 12 .auc) ≡ true
+  pub kept12 : renewal width testSets (lost 12) .outcome ≡ kept
+  pub valid1 : validAuc width testSets (lost 1 .auc) ≡ true
+  pub reset1 : renewal width testSets (lost 1) .outcome ≡ reset
   -- the calls
   pub places : map (λ s. s .place) walk ≡ some 0 ∷ none ∷ none ∷ some 1 ∷ []
   pub verdicts : map (λ s. s .answer .verdict) walk ≡ accepted ∷ syncFailure ∷ refused 3 ∷ accepted ∷ []
@@ -148,7 +148,7 @@ computed = record {
 
 -- ---- so the premises are met
 
-premise : (seqhe : ℕ) → validAuc 5 testSets (lost seqhe .auc) ≡ true → seqhe ≤ 12 → Premise 5 testSets (lost seqhe)
+premise : (seqhe : ℕ) → validAuc width testSets (lost seqhe .auc) ≡ true → seqhe ≤ 12 → Premise width testSets (lost seqhe)
 unfolding highest
 premise seqhe valid small = record {
   usim-valid = computed .usim-valid;
@@ -166,11 +166,11 @@ premise seqhe valid small = record {
   failed = computed .failed seqhe;
 }
 
-pub kept-here : Conclusion 5 testSets (lost 12)
-kept-here = demand3 5 (omega arith) testSets test-lawful (lost 12) (premise 12 (computed .valid12) (omega arith))
+pub kept-here : Conclusion width testSets (lost 12)
+kept-here = demand3 width (omega arith) testSets test-lawful (lost 12) (premise 12 (computed .valid12) (omega arith))
 
-pub reset-here : Conclusion 5 testSets (lost 1)
-reset-here = demand3 5 (omega arith) testSets test-lawful (lost 1) (premise 1 (computed .valid1) (omega arith))
+pub reset-here : Conclusion width testSets (lost 1)
+reset-here = demand3 width (omega arith) testSets test-lawful (lost 1) (premise 1 (computed .valid1) (omega arith))
 
 proper : Proper testSets sample
 proper = record {

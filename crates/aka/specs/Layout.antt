@@ -1,6 +1,6 @@
 -- How a vector, AUTN and AUTS lie in octets: sizes and places, writing and reading; and the parts of lent octets.
 -- TS 33.102 §6.3.2 and §6.3.3; document 01, 'Numbers and records'. Assumes nothing.
-use Prim.Native.Nat.{ℕ, zero, suc, _*_, _/_, _%_}
+use Prim.Native.Nat.{ℕ, zero, suc, _+_, _*_, _/_, _%_}
 use mathlib.Core.Bool.{Bool, _&&_, cond}
 use mathlib.Core.List.{[], _++_}
 use lib.Dec.{eqb, ltb, leb}
@@ -33,16 +33,16 @@ amfSize = 2
 abbrev pub macSize : ℕ  -- MAC and MAC-S
 macSize = 8
 
-abbrev pub autnSize : ℕ
-autnSize = 16
-
-abbrev pub autsSize : ℕ
-autsSize = 14
-
-abbrev pub vectorSize : ℕ
-vectorSize = 72
-
 -- ---- AUTN: SQN xor AK, AMF, MAC
+
+abbrev pub amfAt : ℕ
+amfAt = sqnSize
+
+abbrev pub macAt : ℕ
+macAt = amfAt + amfSize
+
+abbrev pub autnSize : ℕ  -- 16
+autnSize = macAt + macSize
 
 pub record Autn : Type 0 where
   pub concealed : Octets  -- SQN xor AK
@@ -53,9 +53,15 @@ unfoldable pub writeAutn : Autn → Octets
 writeAutn a = a .concealed ++ (a .amf ++ a .mac)
 
 unfoldable pub readAutn : Octets → Autn
-readAutn x = record { concealed = part 0 sqnSize x; amf = part 6 amfSize x; mac = part 8 macSize x }
+readAutn x = record { concealed = part 0 sqnSize x; amf = part amfAt amfSize x; mac = part macAt macSize x }
 
 -- ---- AUTS: SQN_MS xor AK*, MAC-S
+
+abbrev pub macSAt : ℕ
+macSAt = sqnSize
+
+abbrev pub autsSize : ℕ  -- 14
+autsSize = macSAt + macSize
 
 pub record Auts : Type 0 where
   pub concealed : Octets  -- SQN_MS xor AK*
@@ -65,9 +71,25 @@ unfoldable pub writeAuts : Auts → Octets
 writeAuts a = a .concealed ++ a .mac
 
 unfoldable pub readAuts : Octets → Auts
-readAuts x = record { concealed = part 0 sqnSize x; mac = part 6 macSize x }
+readAuts x = record { concealed = part 0 sqnSize x; mac = part macSAt macSize x }
 
 -- ---- a vector: RAND, XRES, CK, IK, AUTN
+
+-- where its parts begin, and its size: 72 octets
+abbrev pub xresAt : ℕ
+xresAt = randSize
+
+abbrev pub ckAt : ℕ
+ckAt = xresAt + resSize
+
+abbrev pub ikAt : ℕ
+ikAt = ckAt + ckSize
+
+abbrev pub autnAt : ℕ
+autnAt = ikAt + ikSize
+
+abbrev pub vectorSize : ℕ
+vectorSize = autnAt + autnSize
 
 pub record Vector : Type 0 where
   pub rand : Octets
@@ -82,10 +104,10 @@ writeVector v = v .rand ++ (v .xres ++ (v .ck ++ (v .ik ++ v .autn)))
 unfoldable pub readVector : Octets → Vector
 readVector x = record {
   rand = part 0 randSize x;
-  xres = part 16 resSize x;
-  ck = part 24 ckSize x;
-  ik = part 40 ikSize x;
-  autn = part 56 autnSize x;
+  xres = part xresAt resSize x;
+  ck = part ckAt ckSize x;
+  ik = part ikAt ikSize x;
+  autn = part autnAt autnSize x;
 }
 
 -- ---- lent octets: RANDs and a batch, one behind the other; places count from 0

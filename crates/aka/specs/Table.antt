@@ -8,7 +8,7 @@ use lib.ListN.{length, replicate, set}
 use Rattle.octets.specs.Octets.{Octets, xor, encode}
 use Rattle.aka.specs.Layout.{randSize, amfSize, sqnSize, macSize, vectorSize, writeAutn, vectorAt}
 use Rattle.aka.specs.Functions.{Keys, Functions, Family, Shaped, Lawful, dummyAmf}
-use Rattle.aka.specs.Sequence.{sqnOf}
+use Rattle.aka.specs.Sequence.{sqnOf, width}
 use Rattle.aka.specs.Usim.{Usim, UsimAnswer, accepted, macFailure, syncFailure, challenge, makeAuts, highest, sqnMs}
 use Rattle.aka.specs.Auc.{Auc, AucAnswer, unequal, given, kept, reset, refused, equalPair, makeAutn, order, resync}
 use Rattle.aka.specs.Demand3.{vectorSeq}
@@ -53,16 +53,16 @@ module _ (family : Family) (x : Sample) where
   usimWith places = record { keys = x .keys; places = places }
 
   abbrev pub sqnWith : (seq ind : ℕ) → Octets
-  sqnWith seq ind = encode sqnSize (sqnOf 5 seq ind)
+  sqnWith seq ind = encode sqnSize (sqnOf width seq ind)
 
   -- the answer to a challenge with SEQ, IND and a right MAC
   abbrev pub asked : (places : List ℕ) (seq ind : ℕ) → UsimAnswer
-  asked places seq ind = challenge 5 family (usimWith places) (x .rand) (makeAutn F (sqnWith seq ind) (x .amf) (x .rand))
+  asked places seq ind = challenge width family (usimWith places) (x .rand) (makeAutn F (sqnWith seq ind) (x .amf) (x .rand))
 
   -- the answer to the same challenge with this MAC
   abbrev pub askedWith : (mac : Octets) (places : List ℕ) (seq ind : ℕ) → UsimAnswer
   askedWith mac places seq ind =
-      challenge 5 family (usimWith places) (x .rand)
+      challenge width family (usimWith places) (x .rand)
       (writeAutn (record { concealed = xor (sqnWith seq ind) (F .f5 (x .rand)); amf = x .amf; mac = mac }))
 
   abbrev pub aucWith : (seqhe : ℕ) → Auc
@@ -70,16 +70,16 @@ module _ (family : Family) (x : Sample) where
 
   -- an order of five
   abbrev pub ordered : (seqhe : ℕ) → AucAnswer
-  ordered seqhe = order 5 family (aucWith seqhe) 5 (x .rands) (x .buffer)
+  ordered seqhe = order width family (aucWith seqhe) 5 (x .rands) (x .buffer)
 
   -- a resynchronisation with the AUTS of the USIM whose SEQ_MS is 100
   abbrev pub resynced : (seqhe : ℕ) → AucAnswer
   resynced seqhe =
-      resync 5 family (aucWith seqhe) 5 (x .rands) (x .buffer) (x .rand)
-      (makeAuts F (encode sqnSize (sqnMs 5 (usimWith (x .places100)))) dummyAmf (x .rand))
+      resync width family (aucWith seqhe) 5 (x .rands) (x .buffer) (x .rand)
+      (makeAuts F (encode sqnSize (sqnMs width (usimWith (x .places100)))) dummyAmf (x .rand))
 
   abbrev pub firstSeq : AucAnswer → ℕ
-  firstSeq answer = vectorSeq 5 F (vectorAt (answer .batch) 0)
+  firstSeq answer = vectorSeq width F (vectorAt (answer .batch) 0)
 
   pub record Table : Type 0 where
     -- places, SEQ and IND, verdict
@@ -91,7 +91,7 @@ module _ (family : Family) (x : Sample) where
     pub row6 : asked used 7 4 .verdict ≡ accepted
     pub row7 : asked used 10 4 .verdict ≡ accepted
     -- SQN_MS keeps index 3
-    pub row7-index : sqnMs 5 (asked used 10 4 .usim) ≡ sqnOf 5 10 3
+    pub row7-index : sqnMs width (asked used 10 4 .usim) ≡ sqnOf width 10 3
     -- MAC wrong
     pub row8 : (mac : Octets) → length mac ≡ macSize → (mac ≡ F .f1 (sqnWith 10 3) (x .rand) (x .amf) → ⊥)
         → askedWith mac used 10 3 .verdict ≡ macFailure

@@ -11,14 +11,14 @@ ghost use mathlib.Core.Path.{_≡_};
 ghost use lib.ListN.{length};
 ghost use Rattle.functions.specs.Sets.{sets};
 ghost use Rattle.aka.specs.Layout.{handedBack};
-ghost use Rattle.aka.specs.Sequence.{limit};
+ghost use Rattle.aka.specs.Sequence.{limit, width};
 ghost use Rattle.aka.specs.Auc.{order as orderOf, resync};
 ghost use Rattle.auc_record.specs.Views.{aucOf, answerOf};
 ghost use Rattle.auc_record.specs.Steps.{renewed};
 
 // The AuC's whole answer to an order.
 pub fn order(auc: Auc, count: u64, rands: &[u8], batch: &mut [u8]) -> Answer
-    ensures { λ r. ⌜ answerOf r (now (batch .exit)) ≡ orderOf 5 sets (aucOf auc) count (now (rands .entry)) (now (batch .entry)) ⌝ }
+    ensures { λ r. ⌜ answerOf r (now (batch .exit)) ≡ orderOf width sets (aucOf auc) count (now (rands .entry)) (now (batch .entry)) ⌝ }
 {
     let refusal = auc_record::check(auc, count, rands, batch.len(), true);
     let Outcome::Given = refusal else {
@@ -55,7 +55,7 @@ fn answer_auts(
     rands: &[u8],
     batch: &mut [u8],
 ) -> Answer
-    requires room { ⌜ (n ≤ 5) × (auc .seqhe ≤ limit 5) × (auc .next < 32) ⌝ }
+    requires room { ⌜ (n ≤ 5) × (auc .seqhe ≤ limit width) × (auc .next < 32) ⌝ }
     requires lent { ⌜ (length (now rands) ≡ 16 * n) × (length (now batch) ≡ 72 * n) ⌝ }
     ensures { λ r. ⌜ answerOf r (now (batch .exit)) ≡ renewed (aucOf auc) n (now (rands .entry)) (now (batch .entry)) rand auts ⌝ }
 {
@@ -75,7 +75,7 @@ pub fn resynchronise(
     rands: &[u8],
     batch: &mut [u8],
 ) -> Answer
-    ensures { λ r. ⌜ answerOf r (now (batch .exit)) ≡ resync 5 sets (aucOf auc) count (now (rands .entry)) (now (batch .entry)) (now (rand .entry)) (now (auts .entry)) ⌝ }
+    ensures { λ r. ⌜ answerOf r (now (batch .exit)) ≡ resync width sets (aucOf auc) count (now (rands .entry)) (now (batch .entry)) (now (rand .entry)) (now (auts .entry)) ⌝ }
 {
     let refusal = auc_record::check(auc, count, rands, batch.len(), auts::is_sized(rand, auts));
     let Outcome::Given = refusal else {

@@ -17,7 +17,8 @@ use Rattle.aka.specs.Layout.{amfSize}
 use Rattle.aka.specs.Functions.{Family, Shaped}
 use Rattle.aka.specs.Auc.{Auc, validAuc}
 use Rattle.aka.proofs.Outcomes.{valid-iff}
-use Rattle.image_parts.specs.Head.{seqBits, head, knownHead}
+use Rattle.aka.specs.Sequence.{width, seqBits}
+use Rattle.image_parts.specs.Head.{head, knownHead}
 use Rattle.image_parts.proofs.Heads.{few-sets, length-head, read-head, known-head, known-set, write-head}
 use Rattle.image_parts.proofs.Tests.{unrefused}
 use Rattle.auc_packing.specs.Image.{imageSize, bits, image, readImage}
@@ -125,7 +126,7 @@ module _ (w : ℕ) (family : Family) (filled : seqBits w + w ≡ 48) (few : (set
 pub round-trips : RoundTrips
 round-trips = record {
   size = refl;
-  reading-written = read-written 5 sets refl few-sets;
-  writing-read = written-read 5 sets refl few-sets;
-  sound = sound 5 sets refl few-sets;
+  reading-written = read-written width sets refl few-sets;
+  writing-read = written-read width sets refl few-sets;
+  sound = sound width sets refl few-sets;
 }

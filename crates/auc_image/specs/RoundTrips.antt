@@ -7,6 +7,7 @@ use Rattle.functions.specs.Sets.{sets}
 use Rattle.aka.specs.Layout.{amfSize}
 use Rattle.aka.specs.Functions.{Shaped}
 use Rattle.aka.specs.Auc.{Auc, validAuc}
+use Rattle.aka.specs.Sequence.{width}
 use Rattle.auc_image.specs.Image.{imageSize, writeAnswer, readAnswer}
 
 -- K, OPc and AMF have their length (the code's types see to it)
@@ -16,9 +17,9 @@ pub record Sized (auc : Auc) : Type 0 where
 
 pub record RoundTrips : Type 0 where
   pub size : imageSize ≡ 41
-  pub reading-written : (auc : Auc) (buffer : Octets) → Sized auc → validAuc 5 sets auc ≡ true → length buffer ≡ imageSize
-      → readAnswer 5 sets (writeAnswer 5 sets auc buffer .image) ≡ record { refusal = 0; auc = auc }
-  pub writing-read : (x buffer : Octets) → Below 256 x → readAnswer 5 sets x .refusal ≡ 0 → length buffer ≡ imageSize
-      → writeAnswer 5 sets (readAnswer 5 sets x .auc) buffer ≡ record { refusal = 0; image = x }
+  pub reading-written : (auc : Auc) (buffer : Octets) → Sized auc → validAuc width sets auc ≡ true → length buffer ≡ imageSize
+      → readAnswer width sets (writeAnswer width sets auc buffer .image) ≡ record { refusal = 0; auc = auc }
+  pub writing-read : (x buffer : Octets) → Below 256 x → readAnswer width sets x .refusal ≡ 0 → length buffer ≡ imageSize
+      → writeAnswer width sets (readAnswer width sets x .auc) buffer ≡ record { refusal = 0; image = x }
   -- a record that is read is valid
-  pub sound : (x : Octets) → readAnswer 5 sets x .refusal ≡ 0 → (length x ≡ imageSize) × (validAuc 5 sets (readAnswer 5 sets x .auc) ≡ true)
+  pub sound : (x : Octets) → readAnswer width sets x .refusal ≡ 0 → (length x ≡ imageSize) × (validAuc width sets (readAnswer width sets x .auc) ≡ true)

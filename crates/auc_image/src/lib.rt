@@ -9,6 +9,7 @@ ghost use Rattle.auc_record.specs.Views.{aucOf};
 ghost use Rattle.image_parts.specs.Written.{writtenOf};
 ghost use Rattle.auc_image.specs.Image.{readAnswer, unread, writeAnswer};
 ghost use Rattle.auc_image.specs.Views.{readOf};
+ghost use Rattle.aka.specs.Sequence.{width};
 
 // The octets of an image.
 pub const SIZE: usize = COUNTERS + 6;
@@ -21,7 +22,7 @@ pub struct Answer {
 
 // Writes the image of `auc`: 0, or the refusal's number, and then the buffer is as it was.
 pub fn write(auc: Auc, buffer: &mut [u8]) -> u8
-    ensures { λ r. ⌜ writtenOf r (now (buffer .exit)) ≡ writeAnswer 5 sets (aucOf auc) (now (buffer .entry)) ⌝ }
+    ensures { λ r. ⌜ writtenOf r (now (buffer .exit)) ≡ writeAnswer width sets (aucOf auc) (now (buffer .entry)) ⌝ }
 {
     if !auc_record::is_valid(auc) {
         return 1;
@@ -45,7 +46,7 @@ fn refused(number: u8) -> Answer
 
 // Reads an image of any length and contents. A SEQ_HE of 43 bits and an index of 5 are never past their range.
 pub fn read(image: &[u8]) -> Answer
-    ensures { λ r. ⌜ readOf r ≡ readAnswer 5 sets (now (image .entry)) ⌝ }
+    ensures { λ r. ⌜ readOf r ≡ readAnswer width sets (now (image .entry)) ⌝ }
 {
     if image.len() != SIZE {
         return refused(3);

@@ -5,7 +5,8 @@ use mathlib.Core.List.{List, _++_}
 use Rattle.octets.specs.Octets.{Octets, part, digits, number, encode, decode}
 use Rattle.aka.specs.Layout.{amfSize, sqnSize}
 use Rattle.aka.specs.Auc.{Auc}
-use Rattle.image_parts.specs.Head.{headSize, seqBits, head, keysIn}
+use Rattle.aka.specs.Sequence.{seqBits}
+use Rattle.image_parts.specs.Head.{headSize, head, keysIn}
 
 -- ---- edition, set, K and OPc, then AMF, then SEQ_HE and the next index
 

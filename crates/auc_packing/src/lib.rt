@@ -9,6 +9,7 @@ ghost use Rattle.octets.specs.Octets.{decode, encode, number, part};
 ghost use Rattle.functions.specs.Sets.{sets};
 ghost use Rattle.aka.specs.Layout.{amfSize, sqnSize};
 ghost use Rattle.aka.specs.Auc.{validAuc};
+ghost use Rattle.aka.specs.Sequence.{width};
 ghost use Rattle.auc_record.specs.Views.{aucOf};
 ghost use Rattle.auc_packing.specs.Image.{amfAt, bits, image as imageOf, imageSize, readImage, countersAt};
 
@@ -22,8 +23,8 @@ const INDICES: u64 = 32;
 
 // SEQ_HE of a valid record above the next index, in six octets.
 fn counters_of(auc: Auc) -> [u8; 6]
-    requires { ⌜ validAuc 5 sets (aucOf auc) ≡ true ⌝ }
-    ensures { λ r. ⌜ r ≡ encode sqnSize (number 2 (bits 5 (aucOf auc))) ⌝ }
+    requires { ⌜ validAuc width sets (aucOf auc) ≡ true ⌝ }
+    ensures { λ r. ⌜ r ≡ encode sqnSize (number 2 (bits width (aucOf auc))) ⌝ }
 {
     tokens::sqn_octets(INDICES * auc.seqhe + auc.next as u64)
 }
@@ -46,9 +47,9 @@ fn put_counters(image: &mut [u8], counters: [u8; 6])
 
 // Fills an image with a valid record.
 pub fn fill(auc: Auc, image: &mut [u8])
-    requires valid { ⌜ validAuc 5 sets (aucOf auc) ≡ true ⌝ }
+    requires valid { ⌜ validAuc width sets (aucOf auc) ≡ true ⌝ }
     requires size { ⌜ length (now image) ≡ imageSize ⌝ }
-    ensures { λ _. ⌜ now (image .exit) ≡ imageOf 5 (aucOf auc) ⌝ }
+    ensures { λ _. ⌜ now (image .exit) ≡ imageOf width (aucOf auc) ⌝ }
 {
     let keys = auc.keys;
     let amf = auc.amf;
@@ -84,7 +85,7 @@ fn counters_in(image: &[u8]) -> u64
 // The record of an image.
 pub fn unpack(image: &[u8]) -> Auc
     requires { ⌜ length (now image) ≡ imageSize ⌝ }
-    ensures { λ r. ⌜ aucOf r ≡ readImage 5 (now (image .entry)) ⌝ }
+    ensures { λ r. ⌜ aucOf r ≡ readImage width (now (image .entry)) ⌝ }
 {
     let counters = counters_in(image);
     Auc {

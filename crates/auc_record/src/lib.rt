@@ -6,6 +6,7 @@ ghost use Rattle.octets.specs.Octets.{Octets};
 ghost use Rattle.functions.specs.Challenge.{keysOf};
 ghost use Rattle.functions.specs.Sets.{sets};
 ghost use Rattle.aka.specs.Auc.{newAuc, validAuc, countOf};
+ghost use Rattle.aka.specs.Sequence.{width};
 ghost use Rattle.auc_record.specs.Views.{aucOf, outcomeOf, answerOf};
 ghost use Rattle.auc_record.specs.Steps.{Checked, refusedWith};
 
@@ -50,7 +51,7 @@ pub fn new(keys: Keys, amf: [u8; 2]) -> Auc
 
 // Whether refusal 1 does not apply.
 pub fn is_valid(auc: Auc) -> bool
-    ensures { λ r. ⌜ r ≡ validAuc 5 sets (aucOf auc) ⌝ }
+    ensures { λ r. ⌜ r ≡ validAuc width sets (aucOf auc) ⌝ }
 {
     let keys = auc.keys;
     if !functions::is_known(keys.set) {
@@ -94,7 +95,7 @@ pub fn check(auc: Auc, count: u64, rands: &[u8], size: usize, lent: bool) -> Out
     if rands.len() != 16 * (n as usize) {
         return Outcome::Refused(3);
     }
-    if size != aka::VECTOR * (n as usize) {
+    if size != aka::VECTOR_SIZE * (n as usize) {
         return Outcome::Refused(3);
     }
     if !lent {

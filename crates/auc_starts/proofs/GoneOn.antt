@@ -5,6 +5,7 @@ use mathlib.Core.Path.{_≡_, refl, sym}
 use Rattle.octets.specs.Octets.{Octets}
 use Rattle.functions.specs.Sets.{sets}
 use Rattle.aka.specs.Auc.{Auc, kept, reset, refused, inRange, macSRight, seqMsIn}
+use Rattle.aka.specs.Sequence.{width}
 use Rattle.auc_record.specs.Steps.{refusedWith, sentFrom, renewed}
 use Rattle.auc_starts.specs.Starts.{Start, startFrom, goneOn}
 
@@ -13,7 +14,7 @@ pub gone-on : (auc : Auc) (n : ℕ) (rands buffer rand auts : Octets)
 unfolding renewed startFrom
 gone-on auc n rands buffer rand auts =
     let F = sets .under (auc .keys) in
-    let ms = seqMsIn 5 F rand auts in
+    let ms = seqMsIn width F rand auts in
     go ms (inRange (auc .seqhe) ms n) (macSRight F rand auts)
   where
     go : (ms : ℕ) (a b : Bool)

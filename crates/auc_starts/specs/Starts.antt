@@ -4,6 +4,7 @@ use mathlib.Core.Bool.{Bool, true, false, cond}
 use Rattle.octets.specs.Octets.{Octets}
 use Rattle.aka.specs.Functions.{Functions}
 use Rattle.aka.specs.Auc.{Auc, AucAnswer, Outcome, kept, reset, refused, inRange, macSRight, seqMsIn}
+use Rattle.aka.specs.Sequence.{width}
 use Rattle.auc_record.specs.Views.{outcomeOf}
 use Rattle.auc_record.specs.Steps.{refusedWith, sentFrom}
 use Rattle.auc_starts.specs.declared.Start as declaredStart
@@ -21,7 +22,7 @@ startOf s = record { forged = s .forged; outcome = outcomeOf (s .outcome); seq =
 -- in range SEQ_HE is kept; otherwise it becomes SEQ_MS, where MAC-S is right
 unfoldable pub startFrom : Functions → (rand auts : Octets) (seqhe n : ℕ) → Start
 startFrom F rand auts seqhe n =
-    let ms = seqMsIn 5 F rand auts in
+    let ms = seqMsIn width F rand auts in
     cond (inRange seqhe ms n) (record { forged = false; outcome = kept; seq = seqhe })
     (cond (macSRight F rand auts) (record { forged = false; outcome = reset; seq = ms })
     (record { forged = true; outcome = refused 5; seq = 0 }))

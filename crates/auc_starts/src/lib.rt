@@ -8,7 +8,7 @@ ghost use Rattle.aes_tables.specs.RoundTable.{IsRoundTable};
 ghost use Rattle.functions.specs.Challenge.{Started};
 ghost use Rattle.functions.specs.Sets.{sets};
 ghost use Rattle.aka.specs.Functions.{Keys as KeysOf};
-ghost use Rattle.aka.specs.Sequence.{limit};
+ghost use Rattle.aka.specs.Sequence.{limit, width};
 ghost use Rattle.auc_starts.specs.Starts.{startOf, startFrom};
 
 // Whether SEQ_HE was kept or reset, and the SEQ that the batch follows; `forged`: MAC-S is wrong, and the outcome is its refusal.
@@ -28,7 +28,7 @@ pub fn start_of(
     n: u8,
 ) -> Start
     requires made { ⌜ IsRoundTable (now t) ⌝ }
-    requires room { ⌜ (n ≤ 5) × (seqhe ≤ limit 5) ⌝ }
+    requires room { ⌜ (n ≤ 5) × (seqhe ≤ limit width) ⌝ }
     ensures start { λ r. ⌜ ((keys : KeysOf) (rand : Octets) → Started keys rand (now (w .entry)) c → startOf r ≡ startFrom (sets .under keys) rand auts seqhe n) ⌝ }
     ensures room { λ r. ⌜ r .seq < 2 ^ 59 ⌝ }
 {

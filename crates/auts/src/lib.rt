@@ -10,7 +10,7 @@ ghost use Rattle.aes_tables.specs.RoundTable.{IsRoundTable};
 ghost use Rattle.functions.specs.Challenge.{Started};
 ghost use Rattle.functions.specs.Sets.{sets};
 ghost use Rattle.aka.specs.Functions.{Keys as KeysOf};
-ghost use Rattle.aka.specs.Sequence.{limit};
+ghost use Rattle.aka.specs.Sequence.{limit, width};
 ghost use Rattle.aka.specs.Auc.{inRange, sqnMsIn, macSRight};
 
 // The largest jump.
@@ -18,7 +18,7 @@ const D: u64 = aka::D;
 
 // Whether SEQ_HE is at least SEQ_MS and no number of the batch passes SEQ_MS + D.
 pub fn in_range(seqhe: u64, seqms: u64, n: u8) -> bool
-    requires { ⌜ (n ≤ 5) × (seqhe ≤ limit 5) × (seqms < 2 ^ 59) ⌝ }
+    requires { ⌜ (n ≤ 5) × (seqhe ≤ limit width) × (seqms < 2 ^ 59) ⌝ }
     ensures { λ r. ⌜ r ≡ inRange seqhe seqms n ⌝ }
 {
     if seqhe < seqms {

@@ -9,12 +9,12 @@ ghost use Rattle.aes_tables.specs.RoundTable.{IsRoundTable};
 ghost use Rattle.functions.specs.Challenge.{keysOf, IsSchedule};
 ghost use Rattle.functions.specs.Sets.{sets};
 ghost use Rattle.aka.specs.Layout.{writeVector};
-ghost use Rattle.aka.specs.Sequence.{limit};
+ghost use Rattle.aka.specs.Sequence.{limit, width};
 ghost use Rattle.aka.specs.Auc.{vectorFrom, batchFrom};
 ghost use Rattle.batches.specs.Views.{countedBy};
 
 // The octets of a vector.
-const SIZE: usize = aka::VECTOR;
+const SIZE: usize = aka::VECTOR_SIZE;
 
 // What the vectors of a batch are made with: `start` is the SEQ before the first, `next` the index of all.
 pub struct Series {
@@ -27,9 +27,9 @@ pub struct Series {
 // Puts the vector at place k behind those before it.
 fn put_at(t: &[u32; 256], w: &[u32; 44], s: Series, rands: &[u8], k: u8, batch: &mut [u8])
     requires made { ⌜ IsRoundTable (now t) × IsSchedule (keysOf (s .keys)) (now w) ⌝ }
-    requires room { ⌜ (s .start + 1 + k ≤ limit 5) × (s .next < 32) ⌝ }
+    requires room { ⌜ (s .start + 1 + k ≤ limit width) × (s .next < 32) ⌝ }
     requires lent { ⌜ (16 * k + 16 ≤ length (now rands)) × (72 * k + 72 ≤ length (now batch)) ⌝ }
-    ensures { λ _. ⌜ take (72 * k + 72) (now (batch .exit)) ≡ take (72 * k) (now (batch .entry)) ++ writeVector (vectorFrom 5 sets (countedBy s) (s .start) (now (rands .entry)) k) ⌝ }
+    ensures { λ _. ⌜ take (72 * k + 72) (now (batch .exit)) ≡ take (72 * k) (now (batch .entry)) ++ writeVector (vectorFrom width sets (countedBy s) (s .start) (now (rands .entry)) k) ⌝ }
 {
     let keys = s.keys;
     let amf = s.amf;
@@ -43,9 +43,9 @@ fn put_at(t: &[u32; 256], w: &[u32; 44], s: Series, rands: &[u8], k: u8, batch: 
 // Fills a buffer with a batch of n vectors.
 pub fn fill(t: &[u32; 256], w: &[u32; 44], s: Series, rands: &[u8], n: u8, batch: &mut [u8])
     requires made { ⌜ IsRoundTable (now t) × IsSchedule (keysOf (s .keys)) (now w) ⌝ }
-    requires room { ⌜ (n ≤ 5) × (s .start + n ≤ limit 5) × (s .next < 32) ⌝ }
+    requires room { ⌜ (n ≤ 5) × (s .start + n ≤ limit width) × (s .next < 32) ⌝ }
     requires lent { ⌜ (length (now rands) ≡ 16 * n) × (length (now batch) ≡ 72 * n) ⌝ }
-    ensures { λ _. ⌜ now (batch .exit) ≡ batchFrom 5 sets (countedBy s) (s .start) (now (rands .entry)) n ⌝ }
+    ensures { λ _. ⌜ now (batch .exit) ≡ batchFrom width sets (countedBy s) (s .start) (now (rands .entry)) n ⌝ }
 {
     let mut k: u8 = 0;
     while k < n {

@@ -7,13 +7,14 @@ use Rattle.aka.specs.Layout.{randSize, autsSize, keySize, amfSize}
 use Rattle.aka.specs.Usim as card
 use Rattle.aka.specs.Auc as centre
 use Rattle.aka.specs.Vlr as node
+use Rattle.aka.specs.Sequence.{width}
 use Rattle.bench_state.specs.Bench.{Bench}
 
 -- everything new, with keys and AMF
 abbrev pub keyedBy : (started : Bool) → Keys → (amf : Octets) → Bench
 keyedBy started keys amf = record {
   started = started;
-  usim = card.newUsim 5 keys;
+  usim = card.newUsim width keys;
   auc = centre.newAuc keys amf;
   vlr = node.newVlr;
   heard = false;

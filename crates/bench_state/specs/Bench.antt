@@ -6,7 +6,7 @@ use Rattle.octets.specs.Octets.{Octets, zeros, part, decode}
 use Rattle.functions.specs.Sets.{sets}
 use Rattle.aka.specs.Functions.{Keys}
 use Rattle.aka.specs.Layout.{randSize, autsSize, vectorSize}
-use Rattle.aka.specs.Sequence.{indices, limit}
+use Rattle.aka.specs.Sequence.{indices, limit, width}
 use Rattle.aka.specs.Usim as card
 use Rattle.aka.specs.Auc as centre
 use Rattle.aka.specs.Vlr as node
@@ -41,7 +41,7 @@ unlessRefused bench number rest = cond (eqb number 0) rest (stays bench (replies
 unfoldable pub newBench : Keys → (amf : Octets) → Bench
 newBench keys amf = record {
   started = true;
-  usim = card.newUsim 5 keys;
+  usim = card.newUsim width keys;
   auc = centre.newAuc keys amf;
   vlr = node.newVlr;
   heard = false;
@@ -85,7 +85,7 @@ module _ (bench : Bench) (count : ℕ) (rands : Octets) where
   lent = zeros (vectorSize * count)
 
   unfoldable pub orderAnswer : centre.AucAnswer
-  orderAnswer = centre.order 5 sets (bench .auc) count rands lent
+  orderAnswer = centre.order width sets (bench .auc) count rands lent
 
   unfoldable pub storeAnswer : node.VlrAnswer
   storeAnswer = node.store (bench .vlr) count (orderAnswer .batch)
@@ -95,7 +95,7 @@ module _ (bench : Bench) (count : ℕ) (rands : Octets) where
 
   -- with the last AUTS and its RAND
   unfoldable pub resyncAnswer : centre.AucAnswer
-  resyncAnswer = centre.resync 5 sets (bench .auc) count rands lent (bench .rand) (bench .auts)
+  resyncAnswer = centre.resync width sets (bench .auc) count rands lent (bench .rand) (bench .auts)
 
   unfoldable pub renewAnswer : node.VlrAnswer
   renewAnswer = node.renew (bench .vlr) count (resyncAnswer .batch)
@@ -108,7 +108,7 @@ module _ (bench : Bench) where
 
   unfoldable pub put : (seqhe next : ℕ) → Acted
   put seqhe next =
-      unlessRefused bench (cond (leb seqhe (limit 5) && ltb next (indices 5)) 0 1)
+      unlessRefused bench (cond (leb seqhe (limit width) && ltb next (indices width)) 0 1)
       (record {
         bench = record {
           started = bench .started;
@@ -136,7 +136,7 @@ module _ (bench : Bench) where
   askAnswer = node.ask (bench .vlr)
 
   unfoldable pub cardAnswer : card.UsimAnswer
-  cardAnswer = card.challenge 5 sets (bench .usim) (askAnswer .rand) (askAnswer .autn)
+  cardAnswer = card.challenge width sets (bench .usim) (askAnswer .rand) (askAnswer .autn)
 
   -- the accepted SQN
   abbrev sqn : ℕ

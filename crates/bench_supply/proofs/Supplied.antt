@@ -9,6 +9,7 @@ use Rattle.functions.specs.Sets.{sets}
 use Rattle.aka.specs.Layout.{vectorSize}
 use Rattle.aka.specs.Auc as centre
 use Rattle.aka.specs.Vlr as node
+use Rattle.aka.specs.Sequence.{width}
 use Rattle.bench_replies.specs.Replies.{Reply, stored}
 use Rattle.bench_state.specs.Bench.{Bench, Acted, supplied, orderAnswer, storeAnswer, order, resyncAnswer, renewAnswer, renewed, resync}
 
@@ -19,19 +20,19 @@ take-zeros (suc k) (suc n) h = ap {B = Octets} (λ x. 0 ∷ x) (take-zeros k n (
 
 module _ (bench : Bench) (count : ℕ) (rands : Octets) {buffer : Octets} {a : centre.AucAnswer} {v : node.VlrAnswer} {r : Acted}
     (lent : buffer ≡ zeros (vectorSize * count)) where
-  pub order-is : a ≡ centre.order 5 sets (bench .auc) count rands buffer → v ≡ node.store (bench .vlr) count (a .batch)
+  pub order-is : a ≡ centre.order width sets (bench .auc) count rands buffer → v ≡ node.store (bench .vlr) count (a .batch)
       → r ≡ supplied bench a v (stored (a .n) (v .vlr .held)) → r ≡ order bench count rands
   unfolding order orderAnswer storeAnswer
   order-is e f g =
-      let given : a ≡ orderAnswer bench count rands = e ∙ ap (centre.order 5 sets (bench .auc) count rands) lent in
+      let given : a ≡ orderAnswer bench count rands = e ∙ ap (centre.order width sets (bench .auc) count rands) lent in
       let kept : v ≡ storeAnswer bench count rands = f ∙ ap (λ (x : centre.AucAnswer). node.store (bench .vlr) count (x .batch)) given in
       g ∙ ap₂ (λ (x : centre.AucAnswer) (y : node.VlrAnswer). supplied bench x y (stored (x .n) (y .vlr .held))) given kept
 
-  pub resync-is : {reply : Reply} → a ≡ centre.resync 5 sets (bench .auc) count rands buffer (bench .rand) (bench .auts)
+  pub resync-is : {reply : Reply} → a ≡ centre.resync width sets (bench .auc) count rands buffer (bench .rand) (bench .auts)
       → v ≡ node.renew (bench .vlr) count (a .batch)
       → reply ≡ renewed (a .outcome) (a .n) (v .vlr .held) → r ≡ supplied bench a v reply → r ≡ resync bench count rands
   unfolding resync resyncAnswer renewAnswer
   resync-is e f told g =
-      let given : a ≡ resyncAnswer bench count rands = e ∙ ap (λ (x : Octets). centre.resync 5 sets (bench .auc) count rands x (bench .rand) (bench .auts)) lent in
+      let given : a ≡ resyncAnswer bench count rands = e ∙ ap (λ (x : Octets). centre.resync width sets (bench .auc) count rands x (bench .rand) (bench .auts)) lent in
       let kept : v ≡ renewAnswer bench count rands = f ∙ ap (λ (x : centre.AucAnswer). node.renew (bench .vlr) count (x .batch)) given in
       g ∙ ap (supplied bench a v) told ∙ ap₂ (λ (x : centre.AucAnswer) (y : node.VlrAnswer). supplied bench x y (renewed (x .outcome) (x .n) (y .vlr .held))) given kept

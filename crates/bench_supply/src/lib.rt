@@ -9,6 +9,7 @@ ghost use Rattle.octets.specs.Octets.{part, zeros};
 ghost use Rattle.functions.specs.Sets.{sets};
 ghost use Rattle.aka.specs.Auc as centre;
 ghost use Rattle.aka.specs.Layout.{randSize, vectorSize};
+ghost use Rattle.aka.specs.Sequence.{width};
 ghost use Rattle.auc_record.specs.Views.{answerOf as aucAnswerOf, aucOf};
 ghost use Rattle.bench_state.specs.Bench.{order as orderOf, resync as resyncOf};
 ghost use Rattle.bench_state.specs.Views.{actedOf, benchOf};
@@ -36,7 +37,7 @@ pub fn order(bench: Bench, count: u8, rands: [u8; 80]) -> Acted
         bench,
         count,
         &rands[..16 * n],
-        &mut batch[..aka::VECTOR * n],
+        &mut batch[..aka::VECTOR_SIZE * n],
     )
 }
 
@@ -49,7 +50,7 @@ fn recover(
     rands: &[u8],
     batch: &mut [u8],
 ) -> auc::Answer
-    ensures { λ r. ⌜ aucAnswerOf r (now (batch .exit)) ≡ centre.resync 5 sets (aucOf auc) count (now (rands .entry)) (now (batch .entry)) rand auts ⌝ }
+    ensures { λ r. ⌜ aucAnswerOf r (now (batch .exit)) ≡ centre.resync width sets (aucOf auc) count (now (rands .entry)) (now (batch .entry)) rand auts ⌝ }
 {
     auc::resynchronise(auc, count as u64, &rand, &auts, rands, batch)
 }
@@ -86,6 +87,6 @@ pub fn resync(bench: Bench, count: u8, rands: [u8; 80]) -> Acted
         bench,
         count,
         &rands[..16 * n],
-        &mut batch[..aka::VECTOR * n],
+        &mut batch[..aka::VECTOR_SIZE * n],
     )
 }

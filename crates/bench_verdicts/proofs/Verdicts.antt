@@ -8,6 +8,7 @@ use Rattle.octets.specs.Octets.{Octets, decode}
 use Rattle.functions.specs.Sets.{sets}
 use Rattle.aka.specs.Usim as card
 use Rattle.aka.specs.Vlr as node
+use Rattle.aka.specs.Sequence.{width}
 use Rattle.usim_record.specs.declared.Verdict.{Verdict}
 use Rattle.usim_record.specs.declared.Verdict.the-variants.{Accepted, Sync, Mac, Refused}
 use Rattle.usim_record.specs.Views.{verdictOf, sqnGiven, sqnDue}
@@ -36,9 +37,9 @@ module _ (bench : Bench) where
   -- ---- the challenge
 
   pub card-is : {q : node.VlrAnswer} {a : card.UsimAnswer} → q ≡ askAnswer bench
-      → a ≡ card.challenge 5 sets (bench .usim) (q .rand) (q .autn) → a ≡ cardAnswer bench
+      → a ≡ card.challenge width sets (bench .usim) (q .rand) (q .autn) → a ≡ cardAnswer bench
   unfolding cardAnswer
-  card-is e is = is ∙ ap (λ (q : node.VlrAnswer). card.challenge 5 sets (bench .usim) (q .rand) (q .autn)) e
+  card-is e is = is ∙ ap (λ (q : node.VlrAnswer). card.challenge width sets (bench .usim) (q .rand) (q .autn)) e
 
   pub sqn-is : {q : node.VlrAnswer} {v : Verdict} {sqn : ℕ} → q ≡ askAnswer bench → v ≡ Accepted sqn
       → sqnGiven v ≡ sqnDue (verdictOf v) (bench .usim) (q .rand) (q .autn) → sqn ≡ sqnAsked bench

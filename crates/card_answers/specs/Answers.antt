@@ -8,6 +8,7 @@ use lib.ListN.{length}
 use Rattle.octets.specs.Octets.{Octets}
 use Rattle.aka.specs.Layout.{resSize, ckSize, ikSize, autsSize}
 use Rattle.aka.specs.Usim as card
+use Rattle.aka.specs.Sequence.{width}
 use Rattle.usim_image.specs.Image as usim
 use Rattle.interface_parts.specs.Results.{verdictResult}
 
@@ -37,7 +38,7 @@ filled result image a = record { result = result; image = image; res = a .res; c
 
 -- the image changes with an acceptance only
 abbrev pub answeredAs : card.Verdict → (image res ck ik auts : Octets) → card.UsimAnswer → (sqn : ℕ) → Challenged
-answeredAs card.accepted image res ck ik auts a sqn = filled (verdictResult card.accepted sqn) (usim.image 5 (a .usim)) a
+answeredAs card.accepted image res ck ik auts a sqn = filled (verdictResult card.accepted sqn) (usim.image width (a .usim)) a
 answeredAs card.macFailure image res ck ik auts a sqn = filled (verdictResult card.macFailure sqn) image a
 answeredAs card.syncFailure image res ck ik auts a sqn = filled (verdictResult card.syncFailure sqn) image a
 answeredAs (card.refused number) image res ck ik auts a sqn = untouched (verdictResult (card.refused number) sqn) image res ck ik auts

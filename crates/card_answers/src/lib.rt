@@ -6,6 +6,7 @@ ghost use Prim.Native.Nat.{_<_, _^_};
 ghost use lib.ListN.{length};
 ghost use Rattle.functions.specs.Sets.{sets};
 ghost use Rattle.aka.specs.Usim.{validUsim};
+ghost use Rattle.aka.specs.Sequence.{width};
 ghost use Rattle.usim_record.specs.Views.{usimOf, sqnGiven, answerOf};
 ghost use Rattle.usim_image.specs.Image.{image as usimImage, imageSize as usimImageSize};
 ghost use Rattle.card_answers.specs.Answers.{Lent, isLent, untouched, answered};
@@ -24,8 +25,8 @@ pub fn is_lent(res: &[u8], ck: &[u8], ik: &[u8], auts: &[u8]) -> bool
 
 // The next record goes into the image.
 fn keep_usim(usim: Usim, image: &mut [u8])
-    requires { ⌜ (validUsim 5 sets (usimOf usim) ≡ true) × (length (now image) ≡ usimImageSize 5) ⌝ }
-    ensures { λ _. ⌜ now (image .exit) ≡ usimImage 5 (usimOf usim) ⌝ }
+    requires { ⌜ (validUsim width sets (usimOf usim) ≡ true) × (length (now image) ≡ usimImageSize width) ⌝ }
+    ensures { λ _. ⌜ now (image .exit) ≡ usimImage width (usimOf usim) ⌝ }
 {
     usim_image::write(usim, image);
 }
@@ -58,8 +59,8 @@ pub fn answer(
     ik: &mut [u8],
     auts: &mut [u8],
 ) -> u64
-    requires next { ⌜ (validUsim 5 sets (usimOf (a .usim)) ≡ true) × (sqnGiven (a .verdict) < 2 ^ 48) ⌝ }
-    requires lent { ⌜ (length (now image) ≡ usimImageSize 5) × Lent (now res) (now ck) (now ik) (now auts) ⌝ }
+    requires next { ⌜ (validUsim width sets (usimOf (a .usim)) ≡ true) × (sqnGiven (a .verdict) < 2 ^ 48) ⌝ }
+    requires lent { ⌜ (length (now image) ≡ usimImageSize width) × Lent (now res) (now ck) (now ik) (now auts) ⌝ }
     ensures { λ r. ⌜ untouched r (now (image .exit)) (now (res .exit)) (now (ck .exit)) (now (ik .exit)) (now (auts .exit)) ≡ answered (now (image .entry)) (now (res .entry)) (now (ck .entry)) (now (ik .entry)) (now (auts .entry)) (answerOf a) (sqnGiven (a .verdict)) ⌝ }
 {
     let verdict = a.verdict;

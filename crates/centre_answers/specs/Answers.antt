@@ -3,6 +3,7 @@
 use Prim.Native.Nat.{ℕ}
 use Rattle.octets.specs.Octets.{Octets}
 use Rattle.aka.specs.Auc as centre
+use Rattle.aka.specs.Sequence.{width}
 use Rattle.auc_image.specs.Image as auc
 use Rattle.interface_parts.specs.Results.{outcomeResult}
 
@@ -22,6 +23,6 @@ imageAfter (centre.repeated i j) image next = image
 abbrev pub settled : (image : Octets) → centre.AucAnswer → Batched
 settled image a = record {
   result = outcomeResult (a .outcome);
-  image = imageAfter (a .outcome) image (auc.image 5 (a .auc));
+  image = imageAfter (a .outcome) image (auc.image width (a .auc));
   batch = a .batch;
 }

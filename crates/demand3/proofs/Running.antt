@@ -12,6 +12,7 @@ use Rattle.aka.specs.Functions.{Functions}
 use Rattle.aka.specs.Auc.{AucAnswer, kept, reset, countOf, resync}
 use Rattle.aka.specs.Usim as usim
 use Rattle.aka.specs.Demand3 as aka
+use Rattle.aka.specs.Sequence.{width}
 use Rattle.usim_record.specs.declared.Usim.{Usim}
 use Rattle.usim_record.specs.Views as cardViews
 use Rattle.auc_record.specs.Views as centreViews
@@ -19,7 +20,7 @@ use Rattle.demand3.specs.Running.{Setting, Ran, Call, Chain, callOf, ste
 
 -- the steps of the code are the steps of the definitions
 same-steps : (batch : Octets) (n : ℕ) (u : Usim) (last : Option ℕ) (calls : List Call) → Chain u calls
-    → steps batch n last calls ≡ aka.steps 5 sets batch n (cardViews.usimOf u) last (map callOf calls)
+    → steps batch n last calls ≡ aka.steps width sets batch n (cardViews.usimOf u) last (map callOf calls)
 unfolding Chain steps aka.steps
 same-steps batch n u last [] c = refl
 same-steps batch n u last (call ∷ rest) c =
@@ -28,22 +29,22 @@ same-steps batch n u last (call ∷ rest) c =
     ap (λ (l : List aka.Step). record { place = place; last = after; answer = cardViews.answerOf (call .answer) } ∷ l)
     (same-steps batch n (call .answer .usim) after rest (c .1))
     ∙ ap
-    (λ (x : usim.UsimAnswer). record { place = place; last = after; answer = x } ∷ aka.steps 5 sets batch n (x .usim) after (map callOf rest))
+    (λ (x : usim.UsimAnswer). record { place = place; last = after; answer = x } ∷ aka.steps width sets batch n (x .usim) after (map callOf rest))
     (c .0)
 
 -- what `aka` concludes, of any two answers
 pub record Of (F : Functions) (n : ℕ) (failure : usim.UsimAnswer) (renewal : AucAnswer) : Type 0 where
   pub sent : (renewal .outcome ≡ kept) ⊎ (renewal .outcome ≡ reset)
   pub all : (calls : List aka.Call)
-      → aka.Each aka.OtherNotAccepted (aka.steps 5 sets (renewal .batch) n (failure .usim) none calls)
-      → aka.Each (aka.Holds 5 F (renewal .batch) n (renewal .auc .seqhe)) (aka.steps 5 sets (renewal .batch) n (failure .usim) none calls)
+      → aka.Each aka.OtherNotAccepted (aka.steps width sets (renewal .batch) n (failure .usim) none calls)
+      → aka.Each (aka.Holds width F (renewal .batch) n (renewal .auc .seqhe)) (aka.steps width sets (renewal .batch) n (failure .usim) none calls)
 
-of-definitions : (s : Setting) → aka.Premise 5 sets (settingOf s)
-    → Of (sets .under (keysOf (s .usim .keys))) (countOf (s .count)) (aka.failure 5 sets (settingOf s)) (aka.renewal 5 sets (settingOf s))
+of-definitions : (s : Setting) → aka.Premise width sets (settingOf s)
+    → Of (sets .under (keysOf (s .usim .keys))) (countOf (s .count)) (aka.failure width sets (settingOf s)) (aka.renewal width sets (settingOf s))
 of-definitions s p = let c = demand3-holds (settingOf s) p in record { sent = c .sent; all = c .all }
 
 -- and so of the code's own answers
-of-code : (s : Setting) → Ran s → aka.Premise 5 sets (settingOf s)
+of-code : (s : Setting) → Ran s → aka.Premise width sets (settingOf s)
     → Of (sets .under (keysOf (s .usim .keys))) (countOf (s .count)) (cardViews.answerOf (s .failure)) (centreViews.answerOf (s .renewal) (s .batch))
 of-code s ran p =
     let F = sets .under (keysOf (s .usim .keys)) in
@@ -51,14 +52,14 @@ of-code s ran p =
     let f = cardViews.answerOf (s .failure) in
     subst (λ (r : AucAnswer). Of F n f r) (sym (ran .renewal))
     (subst
-    (λ (x : usim.UsimAnswer). Of F n x (resync 5 sets (centreViews.aucOf (s .auc)) (s .count) (s .rands) (s .buffer) (s .rand) (x .auts)))
+    (λ (x : usim.UsimAnswer). Of F n x (resync width sets (centreViews.aucOf (s .auc)) (s .count) (s .rands) (s .buffer) (s .rand) (x .auts)))
     (sym (ran .failure)) (of-definitions s p))
 
 pub running : Demand3
 running s ran p =
     let c = of-code s ran p in
     let n = countOf (s .count) in
-    let Holds = aka.Holds 5 (sets .under (keysOf (s .usim .keys))) (s .batch) n (s .renewal .auc .seqhe) in
+    let Holds = aka.Holds width (sets .under (keysOf (s .usim .keys))) (s .batch) n (s .renewal .auc .seqhe) in
     record {
       sent = c .sent;
       all = λ calls chain other.

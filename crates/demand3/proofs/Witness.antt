@@ -14,6 +14,7 @@ use Rattle.aka.specs.Usim.{challenge, verdictOn, judgement, answerWith, validUs
 use Rattle.aka.specs.Auc.{validAuc, makeAutn, makeVector, batchFrom, pairWith, pairFrom, lentFor, lentAll, unlessRefused, unlessPast, inRange, macSRight, resyncOutcome, resync}
 use Rattle.aka.specs.Auc as auc
 use Rattle.aka.specs.Demand3 as aka
+use Rattle.aka.specs.Sequence.{width}
 use Rattle.usim_record.specs.declared.Usim.{Usim}
 use Rattle.usim_record.specs.declared.Answer as card
 use Rattle.usim_record.specs.declared.Verdict.the-variants.{Sync}
@@ -63,14 +64,14 @@ lost = record {
   rands = rands;
   buffer = buffer;
   renewal = renewal;
-  batch = resync 5 sets (aucOf (aucWith 0 0)) 2 rands buffer (zeros 16) auts .batch;
+  batch = resync width sets (aucOf (aucWith 0 0)) 2 rands buffer (zeros 16) auts .batch;
 }
 
 ran : Ran lost
 unfolding sets testSet testX challenge verdictOn judgement answerWith validUsim sized macRight fresh highest lowestIndex allWithin makeAuts makeAutn writeAutn readAutn writeAuts readAuts xor equal digits spelt pairFrom pairWith validAuc auc.answerWith lentFor lentAll unlessRefused unlessPast inRange macSRight resyncOutcome resync batchFrom makeVector writeVector readVector joined turnLeft
 ran = record { failure = refl; renewal = refl }
 
-premise : aka.Premise 5 sets (settingOf lost)
+premise : aka.Premise width sets (settingOf lost)
 unfolding sets testSet testX challenge verdictOn judgement answerWith validUsim sized macRight fresh highest lowestIndex allWithin makeAuts makeAutn writeAutn readAutn writeAuts readAuts xor equal digits spelt pairFrom pairWith validAuc turnLeft
 premise = record {
   usim-valid = refl;

@@ -11,6 +11,7 @@ use Rattle.functions.specs.Challenge.{keysOf}
 use Rattle.aka.specs.Auc.{kept, reset, countOf, resync}
 use Rattle.aka.specs.Usim.{challenge}
 use Rattle.aka.specs.Demand3 as aka
+use Rattle.aka.specs.Sequence.{width}
 use Rattle.usim_record.specs.declared.Usim.{Usim}
 use Rattle.usim_record.specs.declared.Answer as card
 use Rattle.usim_record.specs.Views as cardViews
@@ -20,12 +21,12 @@ use Rattle.auc_record.specs.Views as centreViews
 
 -- what the contract of `usim::challenge` says of its answer
 abbrev pub Answered : Usim → (rand autn : Octets) → card.Answer → Type 0
-Answered usim rand autn answer = cardViews.answerOf answer ≡ challenge 5 sets (cardViews.usimOf usim) rand autn
+Answered usim rand autn answer = cardViews.answerOf answer ≡ challenge width sets (cardViews.usimOf usim) rand autn
 
 -- what the contract of `auc::resynchronise` says of its answer, and of what the buffer holds at the end
 abbrev pub Renewed : Auc → (count : ℕ) (rands buffer rand auts : Octets) → centre.Answer → (batch : Octets) → Type 0
 Renewed auc count rands buffer rand auts answer batch =
-    centreViews.answerOf answer batch ≡ resync 5 sets (centreViews.aucOf auc) count rands buffer rand auts
+    centreViews.answerOf answer batch ≡ resync width sets (centreViews.aucOf auc) count rands buffer rand auts
 
 -- a card, a challenge to it and its answer; a centre, what is lent to its resynchronisation, and its answer
 pub record Setting : Type 0 where
@@ -93,8 +94,8 @@ module _ (s : Setting) where
     -- for every list of calls that starts from the record that the failure left, each other call not being accepted:
     -- each call of the batch is accepted with its vector's XRES, CK and IK, SEQ_MS is its SEQ, and SEQ_HE is ahead as `aka` `Demand3.Holds` says
     pub all : (calls : List Call) → Chain (s .failure .usim) calls → aka.Each aka.OtherNotAccepted (stepsOf calls)
-        → aka.Each (aka.Holds 5 (sets .under (keysOf (s .usim .keys))) (s .batch) (countOf (s .count)) (s .renewal .auc .seqhe)) (stepsOf calls)
+        → aka.Each (aka.Holds width (sets .under (keysOf (s .usim .keys))) (s .batch) (countOf (s .count)) (s .renewal .auc .seqhe)) (stepsOf calls)
 
 -- `aka.Premise`: valid records of the same keys, count and lent parts as named, room, and a synchronisation failure
 abbrev pub Demand3 : Type 0
-Demand3 = (s : Setting) → Ran s → aka.Premise 5 sets (settingOf s) → Conclusion s
+Demand3 = (s : Setting) → Ran s → aka.Premise width sets (settingOf s) → Conclusion s

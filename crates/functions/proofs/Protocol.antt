@@ -8,17 +8,18 @@ use Rattle.aka.proofs.Demand3.{demand3}
 use Rattle.aka.proofs.Table.{worked-table}
 use Rattle.aka.proofs.UsimLaws.{usim-promise}
 use Rattle.aka.proofs.AucLaws.{auc-promise}
+use Rattle.aka.specs.Sequence.{width}
 use Rattle.functions.specs.Sets.{sets}
 use Rattle.functions.proofs.Family.{lawful}
 
-pub demand3-holds : (s : Setting) → Premise 5 sets s → Conclusion 5 sets s
-demand3-holds = demand3 5 (omega arith) sets lawful
+pub demand3-holds : (s : Setting) → Premise width sets s → Conclusion width sets s
+demand3-holds = demand3 width (omega arith) sets lawful
 
 pub table-holds : (x : Sample) → Proper sets x → Table sets x
 table-holds = worked-table sets lawful
 
-pub usim-holds : UsimPromise 5 sets
-usim-holds = usim-promise 5 sets
+pub usim-holds : UsimPromise width sets
+usim-holds = usim-promise width sets
 
-pub auc-holds : AucPromise 5 sets
-auc-holds = auc-promise 5 sets
+pub auc-holds : AucPromise width sets
+auc-holds = auc-promise width sets

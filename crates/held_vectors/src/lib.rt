@@ -8,7 +8,7 @@ ghost use Rattle.aka.specs.Layout.{readVector};
 ghost use Rattle.aka.specs.Vlr.{allZero, mostHeld, placeSize};
 
 // The octets of a place.
-const SIZE: usize = aka::VECTOR;
+const SIZE: usize = aka::VECTOR_SIZE;
 
 // Where the parts of a vector begin.
 pub const RAND: usize = 0;

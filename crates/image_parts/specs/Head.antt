@@ -1,6 +1,6 @@
 -- The head of a packed image (document 01, 'Numbers and records'): edition and set in the first octet, then K and OPc. USIM and AuC share it.
 -- Assumes nothing: these are definitions.
-use Prim.Native.Nat.{ℕ, _+_, _-_, _*_, _/_, _%_}
+use Prim.Native.Nat.{ℕ, _+_, _*_, _/_, _%_}
 use mathlib.Core.Bool.{Bool, _&&_}
 use mathlib.Core.List.{_∷_, _++_}
 use lib.Dec.{eqb}
@@ -21,10 +21,6 @@ opcAt = kAt + keySize
 
 abbrev pub headSize : ℕ
 headSize = opcAt + keySize
-
--- the bits of a SEQ, where the index has `w` bits
-abbrev pub seqBits : (w : ℕ) → ℕ
-seqBits w = 48 - w
 
 -- edition and set have 4 bits each
 unfoldable pub head : Keys → Octets

@@ -8,7 +8,7 @@ ghost use Rattle.aka.specs.Auc.{equalPair};
 ghost use Rattle.lent_parts.specs.Views.{pairOf};
 
 // The octets of a vector.
-const SIZE: usize = aka::VECTOR;
+const SIZE: usize = aka::VECTOR_SIZE;
 
 // Whether there is a pair of equal RANDs, and its places.
 pub struct Pair {

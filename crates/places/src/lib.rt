@@ -1,7 +1,7 @@
 // The thirty-two places of the card, each a SEQ: SEQ_MS, SQN_MS and freshness.
 ghost use mathlib.Core.Path.{_≡_};
 ghost use Prim.Native.Nat.{_<_, _≤_};
-ghost use Rattle.aka.specs.Sequence.{limit, sqnOf};
+ghost use Rattle.aka.specs.Sequence.{limit, sqnOf, width};
 ghost use Rattle.aka.specs.Usim.{allWithin, fresh, highest as highestOf, lowestIndex};
 
 // The largest SEQ.
@@ -12,7 +12,7 @@ const D: u64 = aka::D;
 
 // Whether no place is above the limit.
 pub fn within(places: [u64; 32]) -> bool
-    ensures { λ r. ⌜ r ≡ allWithin (limit 5) places ⌝ }
+    ensures { λ r. ⌜ r ≡ allWithin (limit width) places ⌝ }
 {
     let mut i: usize = 0;
     while i < 32 {
@@ -55,8 +55,8 @@ pub fn lowest_index(places: [u64; 32], seq: u64) -> usize
 
 // SQN_MS.
 pub fn sqn_ms(places: [u64; 32]) -> u64
-    requires { ⌜ highestOf places ≤ limit 5 ⌝ }
-    ensures { λ r. ⌜ r ≡ sqnOf 5 (highestOf places) (lowestIndex (highestOf places) places) ⌝ }
+    requires { ⌜ highestOf places ≤ limit width ⌝ }
+    ensures { λ r. ⌜ r ≡ sqnOf width (highestOf places) (lowestIndex (highestOf places) places) ⌝ }
 {
     let seq = highest(places);
     let ind = lowest_index(places, seq);

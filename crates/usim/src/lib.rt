@@ -15,6 +15,7 @@ ghost use Rattle.functions.specs.Challenge.{keysOf, Started};
 ghost use Rattle.functions.specs.Sets.{sets};
 ghost use Rattle.aka.specs.Functions.{Keys as KeysOf};
 ghost use Rattle.aka.specs.Usim.{validUsim, sqnIn, macRight, judgement, challenge as challengeOf};
+ghost use Rattle.aka.specs.Sequence.{width};
 ghost use Rattle.usim_record.specs.Views.{usimOf, verdictOf, answerOf, sqnGiven, sqnDue};
 ghost use Rattle.usim_accept.specs.Steps.{Authentic, Answers};
 
@@ -37,8 +38,8 @@ fn judge_sqn(
     sqn: u64,
     res: [u8; 8],
 ) -> Answer
-    requires { ⌜ IsRoundTable (now t) × (validUsim 5 sets (usimOf usim) ≡ true) ⌝ }
-    ensures { λ r. ⌜ ((rand autn : Octets) → Authentic (keysOf (usim .keys)) rand autn (now (w .entry)) c sqn res → Answers (usimOf usim) rand autn (judgement 5 sets (usimOf usim) rand autn) r) ⌝ }
+    requires { ⌜ IsRoundTable (now t) × (validUsim width sets (usimOf usim) ≡ true) ⌝ }
+    ensures { λ r. ⌜ ((rand autn : Octets) → Authentic (keysOf (usim .keys)) rand autn (now (w .entry)) c sqn res → Answers (usimOf usim) rand autn (judgement width sets (usimOf usim) rand autn) r) ⌝ }
 {
     let places = usim.places;
     if !places::is_fresh(places, sqn / 32, (sqn % 32) as usize) {
@@ -49,8 +50,8 @@ fn judge_sqn(
 
 // First MAC, then freshness.
 fn judge(t: &[u32; 256], w: &[u32; 44], c: Challenge, usim: Usim, autn: [u8; 16]) -> Answer
-    requires { ⌜ IsRoundTable (now t) × (validUsim 5 sets (usimOf usim) ≡ true) ⌝ }
-    ensures { λ r. ⌜ ((rand : Octets) → Started (keysOf (usim .keys)) rand (now (w .entry)) c → Answers (usimOf usim) rand autn (judgement 5 sets (usimOf usim) rand autn) r) ⌝ }
+    requires { ⌜ IsRoundTable (now t) × (validUsim width sets (usimOf usim) ≡ true) ⌝ }
+    ensures { λ r. ⌜ ((rand : Octets) → Started (keysOf (usim .keys)) rand (now (w .entry)) c → Answers (usimOf usim) rand autn (judgement width sets (usimOf usim) rand autn) r) ⌝ }
 {
     let both = functions::f2_f5(t, w, c);
     let res = both.res;
@@ -64,8 +65,8 @@ fn judge(t: &[u32; 256], w: &[u32; 44], c: Challenge, usim: Usim, autn: [u8; 16]
 
 // The answer of a valid USIM to a challenge of the lengths named.
 fn authenticate(usim: Usim, rand: [u8; 16], autn: [u8; 16]) -> Answer
-    requires { ⌜ validUsim 5 sets (usimOf usim) ≡ true ⌝ }
-    ensures { λ r. ⌜ Answers (usimOf usim) rand autn (judgement 5 sets (usimOf usim) rand autn) r ⌝ }
+    requires { ⌜ validUsim width sets (usimOf usim) ≡ true ⌝ }
+    ensures { λ r. ⌜ Answers (usimOf usim) rand autn (judgement width sets (usimOf usim) rand autn) r ⌝ }
 {
     let keys = usim.keys;
     let t = aes::round_table();
@@ -76,7 +77,7 @@ fn authenticate(usim: Usim, rand: [u8; 16], autn: [u8; 16]) -> Answer
 
 // The USIM's whole answer to a challenge of any octets.
 pub fn challenge(usim: Usim, rand: &[u8], autn: &[u8]) -> Answer
-    ensures answer { λ r. ⌜ answerOf r ≡ challengeOf 5 sets (usimOf usim) (now (rand .entry)) (now (autn .entry)) ⌝ }
+    ensures answer { λ r. ⌜ answerOf r ≡ challengeOf width sets (usimOf usim) (now (rand .entry)) (now (autn .entry)) ⌝ }
     ensures sqn { λ r. ⌜ (sqnGiven (r .verdict) ≡ sqnDue (verdictOf (r .verdict)) (usimOf usim) (now (rand .entry)) (now (autn .entry))) × (sqnGiven (r .verdict) < 2 ^ 48) ⌝ }
 {
     if !is_valid(usim) {

@@ -9,6 +9,7 @@ use Rattle.functions.specs.Challenge.{Started}
 use Rattle.functions.specs.Sets.{sets}
 use Rattle.aka.specs.Functions.{Keys}
 use Rattle.aka.specs.Usim.{Usim, Verdict, sqnIn, macRight, answerWith}
+use Rattle.aka.specs.Sequence.{width}
 use Rattle.usim_record.specs.declared.Answer.{Answer}
 use Rattle.usim_record.specs.Views.{verdictOf, answerOf, sqnGiven, sqnDue}
 
@@ -22,6 +23,6 @@ pub record Authentic (keys : Keys) (rand autn : Octets) (w : List ℕ) (c : Chal
 
 -- the whole answer for a verdict
 pub record Answers (usim : Usim) (rand autn : Octets) (verdict : Verdict) (r : Answer) : Type 0 where
-  pub answer : answerOf r ≡ answerWith 5 sets usim rand autn verdict
+  pub answer : answerOf r ≡ answerWith width sets usim rand autn verdict
   pub sqn : sqnGiven (r .verdict) ≡ sqnDue (verdictOf (r .verdict)) usim rand autn
   pub fits : sqnGiven (r .verdict) < 2 ^ 48

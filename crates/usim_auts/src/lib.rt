@@ -9,6 +9,7 @@ ghost use Rattle.functions.specs.Challenge.{Started};
 ghost use Rattle.functions.specs.Sets.{sets};
 ghost use Rattle.aka.specs.Functions.{Keys as KeysOf, dummyAmf};
 ghost use Rattle.aka.specs.Usim.{validUsim, sqnMs, makeAuts};
+ghost use Rattle.aka.specs.Sequence.{width};
 ghost use Rattle.usim_record.specs.Views.{usimOf};
 
 // AK*, which conceals SQN_MS: f5* of RAND. AK conceals the SQN of AUTN only.
@@ -21,8 +22,8 @@ fn ak_star(t: &[u32; 256], w: &[u32; 44], c: Challenge) -> [u8; 6]
 
 // AUTS of SQN_MS. The AMF of MAC-S is zero.
 pub fn auts(t: &[u32; 256], w: &[u32; 44], c: Challenge, usim: Usim) -> [u8; 14]
-    requires { ⌜ IsRoundTable (now t) × (validUsim 5 sets (usimOf usim) ≡ true) ⌝ }
-    ensures { λ r. ⌜ ((keys : KeysOf) (rand : Octets) → Started keys rand (now (w .entry)) c → r ≡ makeAuts (sets .under keys) (encode 6 (sqnMs 5 (usimOf usim))) dummyAmf rand) ⌝ }
+    requires { ⌜ IsRoundTable (now t) × (validUsim width sets (usimOf usim) ≡ true) ⌝ }
+    ensures { λ r. ⌜ ((keys : KeysOf) (rand : Octets) → Started keys rand (now (w .entry)) c → r ≡ makeAuts (sets .under keys) (encode 6 (sqnMs width (usimOf usim))) dummyAmf rand) ⌝ }
 {
     let places = usim.places;
     let sqn = tokens::sqn_octets(places::sqn_ms(places));

@@ -11,14 +11,14 @@ use lib.Pow.{pow-pos}
 use Rattle.octets.specs.Octets.{Octets, Below, part, digits, number, encode, decode}
 use Rattle.octets.proofs.Numbers.{length-digits, digits-below}
 use Rattle.aka.specs.Functions.{Family, Shaped}
-use Rattle.aka.specs.Sequence.{indices}
+use Rattle.aka.specs.Sequence.{indices, width, seqBits}
 use Rattle.aka.specs.Usim.{Usim, validUsim}
 use Rattle.octets.proofs.Parts.{past, whole, meet, length-part}
 use Rattle.octets.proofs.Ranges.{below-part}
 use Rattle.functions.specs.Sets.{sets}
 use Rattle.packing.specs.Packing.{repacked}
 use Rattle.packing.proofs.Repacked.{repacked-back}
-use Rattle.image_parts.specs.Head.{seqBits, head, knownHead}
+use Rattle.image_parts.specs.Head.{head, knownHead}
 use Rattle.image_parts.proofs.Heads.{few-sets, length-head, read-head, known-head, known-set, write-head}
 use Rattle.image_parts.proofs.Tests.{unrefused}
 use Rattle.usim_image.specs.RoundTrips.{Sized, RoundTrips}
@@ -124,7 +124,7 @@ wider = refl
 pub round-trips : RoundTrips
 round-trips = record {
   size = refl;
-  reading-written = read-written 5 sets refl few-sets;
-  writing-read = written-read 5 sets refl few-sets;
-  sound = sound 5 sets refl few-sets;
+  reading-written = read-written width sets refl few-sets;
+  writing-read = written-read width sets refl few-sets;
+  sound = sound width sets refl few-sets;
 }

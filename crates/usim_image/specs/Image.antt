@@ -7,9 +7,9 @@ use lib.Dec.{eqb}
 use lib.ListN.{length}
 use Rattle.octets.specs.Octets.{Octets, part, digits, number, encode, decode}
 use Rattle.aka.specs.Functions.{Family}
-use Rattle.aka.specs.Sequence.{indices}
+use Rattle.aka.specs.Sequence.{indices, seqBits}
 use Rattle.aka.specs.Usim.{Usim, newUsim, validUsim}
-use Rattle.image_parts.specs.Head.{headSize, seqBits, head, keysIn, knownHead, noKeys}
+use Rattle.image_parts.specs.Head.{headSize, head, keysIn, knownHead, noKeys}
 use Rattle.image_parts.specs.Written.{Written}
 
 -- ---- edition, set, K and OPc, then the places

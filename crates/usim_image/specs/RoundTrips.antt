@@ -6,7 +6,7 @@ use lib.ListN.{length}
 use Rattle.octets.specs.Octets.{Octets, Below}
 use Rattle.functions.specs.Sets.{sets}
 use Rattle.aka.specs.Functions.{Shaped}
-use Rattle.aka.specs.Sequence.{indices}
+use Rattle.aka.specs.Sequence.{indices, width}
 use Rattle.aka.specs.Usim.{Usim, validUsim}
 use Rattle.usim_image.specs.Image.{imageSize, writeAnswer, readAnswer}
 
@@ -16,10 +16,10 @@ pub record Sized (w : ℕ) (usim : Usim) : Type 0 where
   pub places : length (usim .places) ≡ indices w
 
 pub record RoundTrips : Type 0 where
-  pub size : imageSize 5 ≡ 205
-  pub reading-written : (usim : Usim) (buffer : Octets) → Sized 5 usim → validUsim 5 sets usim ≡ true → length buffer ≡ imageSize 5
-      → readAnswer 5 sets (writeAnswer 5 sets usim buffer .image) ≡ record { refusal = 0; usim = usim }
-  pub writing-read : (x buffer : Octets) → Below 256 x → readAnswer 5 sets x .refusal ≡ 0 → length buffer ≡ imageSize 5
-      → writeAnswer 5 sets (readAnswer 5 sets x .usim) buffer ≡ record { refusal = 0; image = x }
+  pub size : imageSize width ≡ 205
+  pub reading-written : (usim : Usim) (buffer : Octets) → Sized width usim → validUsim width sets usim ≡ true → length buffer ≡ imageSize width
+      → readAnswer width sets (writeAnswer width sets usim buffer .image) ≡ record { refusal = 0; usim = usim }
+  pub writing-read : (x buffer : Octets) → Below 256 x → readAnswer width sets x .refusal ≡ 0 → length buffer ≡ imageSize width
+      → writeAnswer width sets (readAnswer width sets x .usim) buffer ≡ record { refusal = 0; image = x }
   -- a record that is read is valid
-  pub sound : (x : Octets) → readAnswer 5 sets x .refusal ≡ 0 → (length x ≡ imageSize 5) × (validUsim 5 sets (readAnswer 5 sets x .usim) ≡ true)
+  pub sound : (x : Octets) → readAnswer width sets x .refusal ≡ 0 → (length x ≡ imageSize width) × (validUsim width sets (readAnswer width sets x .usim) ≡ true)

@@ -8,10 +8,9 @@ ghost use Prim.Native.Nat.{_^_};
 ghost use lib.ListN.{length, take};
 ghost use Rattle.octets.specs.Octets.{Below, decode, digits, encode, number};
 ghost use Rattle.functions.specs.Sets.{sets};
-ghost use Rattle.aka.specs.Sequence.{indices};
+ghost use Rattle.aka.specs.Sequence.{indices, width, seqBits};
 ghost use Rattle.aka.specs.Usim.{validUsim};
 ghost use Rattle.usim_record.specs.Views.{usimOf};
-ghost use Rattle.image_parts.specs.Head.{seqBits};
 ghost use Rattle.image_parts.specs.Written.{writtenOf};
 ghost use Rattle.usim_image.specs.Image.{image as imageOf, imageSize, placesAt, placesSize, readAnswer, readImage, unread, writeAnswer};
 ghost use Rattle.usim_image.specs.Views.{readOf};
@@ -36,9 +35,9 @@ pub struct Answer {
 
 // Puts the places into an image. What stands before stays.
 fn put_places(image: &mut [u8], places: [u64; 32])
-    requires size { ⌜ length (now image) ≡ imageSize 5 ⌝ }
-    requires below { ⌜ Below (2 ^ seqBits 5) places ⌝ }
-    ensures { λ _. ⌜ now (image .exit) ≡ take placesAt (now (image .entry)) ++ encode (placesSize 5) (number (2 ^ seqBits 5) places) ⌝ }
+    requires size { ⌜ length (now image) ≡ imageSize width ⌝ }
+    requires below { ⌜ Below (2 ^ seqBits width) places ⌝ }
+    ensures { λ _. ⌜ now (image .exit) ≡ take placesAt (now (image .entry)) ++ encode (placesSize width) (number (2 ^ seqBits width) places) ⌝ }
 {
     let mut words = [0u64; PLACES_SIZE];
     packing::repack(&places, SEQ_BITS, &mut words, 8);
@@ -47,9 +46,9 @@ fn put_places(image: &mut [u8], places: [u64; 32])
 
 // Fills an image with a valid record.
 fn fill(usim: Usim, image: &mut [u8])
-    requires valid { ⌜ validUsim 5 sets (usimOf usim) ≡ true ⌝ }
-    requires size { ⌜ length (now image) ≡ imageSize 5 ⌝ }
-    ensures { λ _. ⌜ now (image .exit) ≡ imageOf 5 (usimOf usim) ⌝ }
+    requires valid { ⌜ validUsim width sets (usimOf usim) ≡ true ⌝ }
+    requires size { ⌜ length (now image) ≡ imageSize width ⌝ }
+    ensures { λ _. ⌜ now (image .exit) ≡ imageOf width (usimOf usim) ⌝ }
 {
     let keys = usim.keys;
     let places = usim.places;
@@ -59,7 +58,7 @@ fn fill(usim: Usim, image: &mut [u8])
 
 // Writes the image of `usim`: 0, or the refusal's number, and then the buffer is as it was.
 pub fn write(usim: Usim, buffer: &mut [u8]) -> u8
-    ensures { λ r. ⌜ writtenOf r (now (buffer .exit)) ≡ writeAnswer 5 sets (usimOf usim) (now (buffer .entry)) ⌝ }
+    ensures { λ r. ⌜ writtenOf r (now (buffer .exit)) ≡ writeAnswer width sets (usimOf usim) (now (buffer .entry)) ⌝ }
 {
     if !usim_record::is_valid(usim) {
         return 1;
@@ -73,8 +72,8 @@ pub fn write(usim: Usim, buffer: &mut [u8]) -> u8
 
 // The places of an image.
 fn unpack_places(octets: &[u8]) -> [u64; 32]
-    requires { ⌜ length (now octets) ≡ placesSize 5 ⌝ }
-    ensures { λ r. ⌜ r ≡ digits (2 ^ seqBits 5) (indices 5) (decode (now (octets .entry))) ⌝ }
+    requires { ⌜ length (now octets) ≡ placesSize width ⌝ }
+    ensures { λ r. ⌜ r ≡ digits (2 ^ seqBits width) (indices width) (decode (now (octets .entry))) ⌝ }
 {
     let mut words = [0u64; PLACES_SIZE];
     packing::widen(octets, &mut words);
@@ -85,8 +84,8 @@ fn unpack_places(octets: &[u8]) -> [u64; 32]
 
 // The record of an image.
 fn unpack(image: &[u8]) -> Usim
-    requires { ⌜ length (now image) ≡ imageSize 5 ⌝ }
-    ensures { λ r. ⌜ usimOf r ≡ readImage 5 (now (image .entry)) ⌝ }
+    requires { ⌜ length (now image) ≡ imageSize width ⌝ }
+    ensures { λ r. ⌜ usimOf r ≡ readImage width (now (image .entry)) ⌝ }
 {
     Usim {
         keys: image_parts::keys_in(image),
@@ -96,7 +95,7 @@ fn unpack(image: &[u8]) -> Usim
 
 // The answer of a refused reading.
 fn refused(number: u8) -> Answer
-    ensures { λ r. ⌜ readOf r ≡ unread 5 number ⌝ }
+    ensures { λ r. ⌜ readOf r ≡ unread width number ⌝ }
 {
     Answer {
         refusal: number,
@@ -106,7 +105,7 @@ fn refused(number: u8) -> Answer
 
 // Reads an image of any length and contents. A place of 43 bits is never past its range.
 pub fn read(image: &[u8]) -> Answer
-    ensures { λ r. ⌜ readOf r ≡ readAnswer 5 sets (now (image .entry)) ⌝ }
+    ensures { λ r. ⌜ readOf r ≡ readAnswer width sets (now (image .entry)) ⌝ }
 {
     if image.len() != SIZE {
         return refused(3);

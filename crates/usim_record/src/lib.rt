@@ -4,6 +4,7 @@ ghost use mathlib.Core.Path.{_≡_};
 ghost use Rattle.functions.specs.Challenge.{keysOf};
 ghost use Rattle.functions.specs.Sets.{sets};
 ghost use Rattle.aka.specs.Usim.{newUsim, validUsim, unchanged as unchangedOf};
+ghost use Rattle.aka.specs.Sequence.{width};
 ghost use Rattle.usim_record.specs.Views.{usimOf, verdictOf, answerOf};
 
 // The thirty-two places of the card hold a SEQ for each index.
@@ -32,7 +33,7 @@ pub struct Answer {
 
 // A new USIM: all places 0.
 pub fn new(keys: Keys) -> Usim
-    ensures { λ r. ⌜ usimOf r ≡ newUsim 5 (keysOf keys) ⌝ }
+    ensures { λ r. ⌜ usimOf r ≡ newUsim width (keysOf keys) ⌝ }
 {
     Usim {
         keys,
@@ -42,7 +43,7 @@ pub fn new(keys: Keys) -> Usim
 
 // Whether refusal 1 does not apply.
 pub fn is_valid(usim: Usim) -> bool
-    ensures { λ r. ⌜ r ≡ validUsim 5 sets (usimOf usim) ⌝ }
+    ensures { λ r. ⌜ r ≡ validUsim width sets (usimOf usim) ⌝ }
 {
     let keys = usim.keys;
     let places = usim.places;

@@ -8,7 +8,7 @@ use lib.Dec.{eqb}
 use lib.ListN.{length}
 use Rattle.octets.specs.Octets.{Octets, decode}
 use Rattle.functions.specs.Sets.{sets}
-use Rattle.aka.specs.Sequence.{limit}
+use Rattle.aka.specs.Sequence.{limit, width}
 use Rattle.aka.specs.Usim.{Usim, UsimAnswer, Verdict, accepted, macFailure, syncFailure, refused, validUsim, seqIn, indIn, sqnIn, answerWith, challenge}
 use Rattle.aka.proofs.Places.{within-set}
 use Rattle.aka.proofs.Sequence.{seq-le}
@@ -20,7 +20,7 @@ use Rattle.card_answers.specs.Answers.{Lent, isLent, answered}
 
 module _ (card : Usim) (rand autn : Octets) where
   abbrev due : UsimAnswer
-  due = challenge 5 sets card rand autn
+  due = challenge width sets card rand autn
 
   -- the code's answer and SQN are the ones due
   pub handed-on : (image res ck ik auts : Octets) (a : UsimAnswer) {sqn : ℕ} → a ≡ due → sqn ≡ sqnDue (a .verdict) card rand autn
@@ -28,34 +28,34 @@ module _ (card : Usim) (rand autn : Octets) where
   handed-on image res ck ik auts a e s = rw (s, e) refl
 
   -- an SQN of 48 bits leaves a valid record valid
-  module _ (valid : validUsim 5 sets card ≡ true) where
-    accepted-valid : due .verdict ≡ accepted → decode (sqnIn (sets .under (card .keys)) rand autn) < 2 ^ 48 → validUsim 5 sets (due .usim) ≡ true
+  module _ (valid : validUsim width sets card ≡ true) where
+    accepted-valid : due .verdict ≡ accepted → decode (sqnIn (sets .under (card .keys)) rand autn) < 2 ^ 48 → validUsim width sets (due .usim) ≡ true
     unfolding answerWith validUsim
     accepted-valid e fits =
-        let parts = valid-parts 5 sets card valid in
+        let parts = valid-parts width sets card valid in
         let F = sets .under (card .keys) in
-        ap (λ (a : UsimAnswer). validUsim 5 sets (a .usim)) (answer-of 5 sets card rand autn accepted e)
-        ∙ rw (parts .0) (within-set (limit 5) (card .places) (indIn 5 F rand autn) (seqIn 5 F rand autn) (seq-le 5 (omega arith) (decode (sqnIn F rand autn)) fits) (parts .1))
+        ap (λ (a : UsimAnswer). validUsim width sets (a .usim)) (answer-of width sets card rand autn accepted e)
+        ∙ rw (parts .0) (within-set (limit width) (card .places) (indIn width F rand autn) (seqIn width F rand autn) (seq-le 5 (omega arith) (decode (sqnIn F rand autn)) fits) (parts .1))
 
-    other-valid : (due .verdict ≡ accepted → ⊥) → validUsim 5 sets (due .usim) ≡ true
-    other-valid h = ap (validUsim 5 sets) (not-accepted-unchanged 5 sets card rand autn h) ∙ valid
+    other-valid : (due .verdict ≡ accepted → ⊥) → validUsim width sets (due .usim) ≡ true
+    other-valid h = ap (validUsim width sets) (not-accepted-unchanged width sets card rand autn h) ∙ valid
 
-    stays-valid : (v : Verdict) → due .verdict ≡ v → sqnDue v card rand autn < 2 ^ 48 → validUsim 5 sets (due .usim) ≡ true
+    stays-valid : (v : Verdict) → due .verdict ≡ v → sqnDue v card rand autn < 2 ^ 48 → validUsim width sets (due .usim) ≡ true
     stays-valid accepted e fits = accepted-valid e fits
     stays-valid macFailure e fits = other-valid (λ q. let z : _≡_ {A = ℕ} 0 1 = cc in omega arith)
     stays-valid syncFailure e fits = other-valid (λ q. let z : _≡_ {A = ℕ} 0 1 = cc in omega arith)
     stays-valid (refused number) e fits = other-valid (λ q. let z : _≡_ {A = ℕ} 0 1 = cc in omega arith)
 
-    pub next-valid : (a : UsimAnswer) {sqn : ℕ} → a ≡ due → sqn ≡ sqnDue (a .verdict) card rand autn → sqn < 2 ^ 48 → validUsim 5 sets (a .usim) ≡ true
+    pub next-valid : (a : UsimAnswer) {sqn : ℕ} → a ≡ due → sqn ≡ sqnDue (a .verdict) card rand autn → sqn < 2 ^ 48 → validUsim width sets (a .usim) ≡ true
     next-valid a e s fits =
-        ap (λ (b : UsimAnswer). validUsim 5 sets (b .usim)) e
+        ap (λ (b : UsimAnswer). validUsim width sets (b .usim)) e
         ∙ stays-valid (a .verdict) (sym (ap (λ (b : UsimAnswer). b .verdict) e)) (rw s at fits)
 
 -- an image that was read has its length and a valid record
-pub held : (x : Octets) (r : Read) → r ≡ readAnswer 5 sets x → r .refusal ≡ 0 → (length x ≡ imageSize 5) × (validUsim 5 sets (r .usim) ≡ true)
+pub held : (x : Octets) (r : Read) → r ≡ readAnswer width sets x → r .refusal ≡ 0 → (length x ≡ imageSize width) × (validUsim width sets (r .usim) ≡ true)
 held x r e none =
     let sound = round-trips .sound x (sym (ap (λ (y : Read). y .refusal) e) ∙ none) in
-    (sound .0, ap (λ (y : Read). validUsim 5 sets (y .usim)) e ∙ sound .1)
+    (sound .0, ap (λ (y : Read). validUsim width sets (y .usim)) e ∙ sound .1)
 
 -- buffers that pass the test have their lengths
 pub lengths : (res ck ik auts : Octets) → isLent res ck ik auts ≡ true → Lent res ck ik auts

@@ -6,19 +6,20 @@ use lib.ListN.{length}
 use Rattle.octets.specs.Octets.{Octets}
 use Rattle.functions.specs.Sets.{sets}
 use Rattle.aka.specs.Auc.{AucAnswer, validAuc}
+use Rattle.aka.specs.Sequence.{width}
 use Rattle.auc_image.specs.Image.{Read, image as aucImage, imageSize, readAnswer}
 use Rattle.auc_image.proofs.RoundTrips.{round-trips}
 use Rattle.interface_parts.specs.Results.{outcomeResult}
 use Rattle.centre_answers.specs.Answers.{Batched, imageAfter, settled}
 
 -- an image that was read has its length and a valid record
-pub held : (x : Octets) (r : Read) → r ≡ readAnswer 5 sets x → r .refusal ≡ 0 → (length x ≡ imageSize) × (validAuc 5 sets (r .auc) ≡ true)
+pub held : (x : Octets) (r : Read) → r ≡ readAnswer width sets x → r .refusal ≡ 0 → (length x ≡ imageSize) × (validAuc width sets (r .auc) ≡ true)
 held x r e none =
     let sound = round-trips .sound x (sym (ap (λ (y : Read). y .refusal) e) ∙ none) in
-    (sound .0, ap (λ (y : Read). validAuc 5 sets (y .auc)) e ∙ sound .1)
+    (sound .0, ap (λ (y : Read). validAuc width sets (y .auc)) e ∙ sound .1)
 
 -- the code's answer is the one due
 pub handed-on : (image : Octets) (a due : AucAnswer) {result : ℕ} {next : Octets} → a ≡ due
-    → (result ≡ outcomeResult (a .outcome)) × (next ≡ imageAfter (a .outcome) image (aucImage 5 (a .auc)))
+    → (result ≡ outcomeResult (a .outcome)) × (next ≡ imageAfter (a .outcome) image (aucImage width (a .auc)))
     → record { result = result; image = next; batch = a .batch } ≡ settled image due
 handed-on image a due e told = rw (told .0, told .1, e) refl

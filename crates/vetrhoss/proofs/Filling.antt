@@ -7,6 +7,7 @@ use Rattle.octets.specs.Octets.{Octets}
 use Rattle.functions.specs.Sets.{sets}
 use Rattle.aka.specs.Usim.{Usim, validUsim}
 use Rattle.aka.specs.Auc.{Auc, validAuc}
+use Rattle.aka.specs.Sequence.{width}
 use Rattle.image_parts.specs.Written.{Written}
 use Rattle.usim_image.specs.Image as usim
 use Rattle.auc_image.specs.Image as auc
@@ -21,12 +22,12 @@ by-size : (sized : Bool) (buffer image : Octets) → toFilled (cond (not sized) 
 by-size true buffer image = refl
 by-size false buffer image = refl
 
-pub usim-written : (card : Usim) (buffer : Octets) → validUsim 5 sets card ≡ true
-    → toFilled (usim.writeAnswer 5 sets card buffer) ≡ cond (not (eqb (length buffer) (usim.imageSize 5))) (filledOf 3 buffer) (filledOf 0 (usim.image 5 card))
+pub usim-written : (card : Usim) (buffer : Octets) → validUsim width sets card ≡ true
+    → toFilled (usim.writeAnswer width sets card buffer) ≡ cond (not (eqb (length buffer) (usim.imageSize width))) (filledOf 3 buffer) (filledOf 0 (usim.image 5 card))
 unfolding usim.writeAnswer
 usim-written card buffer valid = rw valid (by-size (eqb (length buffer) 205) buffer _)
 
-pub auc-written : (centre : Auc) (buffer : Octets) → validAuc 5 sets centre ≡ true
-    → toFilled (auc.writeAnswer 5 sets centre buffer) ≡ cond (not (eqb (length buffer) auc.imageSize)) (filledOf 3 buffer) (filledOf 0 (auc.image 5 centre))
+pub auc-written : (centre : Auc) (buffer : Octets) → validAuc width sets centre ≡ true
+    → toFilled (auc.writeAnswer width sets centre buffer) ≡ cond (not (eqb (length buffer) auc.imageSize)) (filledOf 3 buffer) (filledOf 0 (auc.image 5 centre))
 unfolding auc.writeAnswer
 auc-written centre buffer valid = rw valid (by-size (eqb (length buffer) 41) buffer _)

@@ -12,6 +12,7 @@ use Rattle.aka.specs.Layout.{keySize, amfSize, vectorSize, isPlace}
 use Rattle.aka.specs.Functions.{Keys}
 use Rattle.aka.specs.Usim.{Usim, newUsim, challenge}
 use Rattle.aka.specs.Auc.{Auc, AucAnswer, newAuc, order, resync}
+use Rattle.aka.specs.Sequence.{width}
 use Rattle.usim_record.specs.Views.{sqnDue}
 use Rattle.usim_image.specs.Image as usim
 use Rattle.auc_image.specs.Image as auc
@@ -40,24 +41,24 @@ opcCall k op buffer = cond (not (has keySize k && has keySize op && has keySize 
 unfoldable pub newUsimCall : (set : ℕ) (k opc buffer : Octets) → Filled
 newUsimCall set k opc buffer =
     cond (not (sets .known set)) (filledOf 1 buffer)
-    (cond (not (has keySize k && has keySize opc && has (usim.imageSize 5) buffer)) (filledOf 3 buffer)
-    (filledOf 0 (usim.image 5 (newUsim 5 (record { set = set; k = k; opc = opc })))))
+    (cond (not (has keySize k && has keySize opc && has (usim.imageSize width) buffer)) (filledOf 3 buffer)
+    (filledOf 0 (usim.image width (newUsim width (record { set = set; k = k; opc = opc })))))
 
 -- a new centre
 unfoldable pub newAucCall : (set : ℕ) (k opc amf buffer : Octets) → Filled
 newAucCall set k opc amf buffer =
     cond (not (sets .known set)) (filledOf 1 buffer)
     (cond (not (has keySize k && has keySize opc && has amfSize amf && has auc.imageSize buffer)) (filledOf 3 buffer)
-    (filledOf 0 (auc.image 5 (newAuc (record { set = set; k = k; opc = opc }) amf))))
+    (filledOf 0 (auc.image width (newAuc (record { set = set; k = k; opc = opc }) amf))))
 
 -- ---- the card
 
 -- a challenge, with the buffers lent for RES, CK, IK and AUTS
 unfoldable pub challengeCall : (image rand autn res ck ik auts : Octets) → Challenged
 challengeCall image rand autn res ck ik auts =
-    let held = usim.readAnswer 5 sets image in
+    let held = usim.readAnswer width sets image in
     let card = held .usim in
-    let answer = challenge 5 sets card rand autn in
+    let answer = challenge width sets card rand autn in
     cond (not (eqb (held .refusal) 0)) (untouched (held .refusal) image res ck ik auts)
     (cond (not (isLent res ck ik auts)) (untouched 3 image res ck ik auts)
     (answered image res ck ik auts answer (sqnDue (answer .verdict) card rand autn)))
@@ -67,15 +68,15 @@ challengeCall image rand autn res ck ik auts =
 -- the record in an image is asked
 unfoldable pub onImage : (image : Octets) (count : ℕ) (batch : Octets) → (Auc → AucAnswer) → Batched
 onImage image count batch ask =
-    let held = auc.readAnswer 5 sets image in
+    let held = auc.readAnswer width sets image in
     cond (not (eqb (held .refusal) 0)) (record { result = unreadResult (held .refusal) count; image = image; batch = batch })
     (settled image (ask (held .auc)))
 
 abbrev pub orderCall : (image : Octets) (count : ℕ) (rands batch : Octets) → Batched
-orderCall image count rands batch = onImage image count batch (λ held. order 5 sets held count rands batch)
+orderCall image count rands batch = onImage image count batch (λ held. order width sets held count rands batch)
 
 abbrev pub resyncCall : (image : Octets) (count : ℕ) (rand auts rands batch : Octets) → Batched
-resyncCall image count rand auts rands batch = onImage image count batch (λ held. resync 5 sets held count rands batch rand auts)
+resyncCall image count rand auts rands batch = onImage image count batch (λ held. resync width sets held count rands batch rand auts)
 
 -- ---- where the vector at place k begins in a batch
 

@@ -13,7 +13,7 @@ ghost use Rattle.vlr_record.specs.Views.{vlrOf};
 const MOST_VECTORS: u64 = 5;
 
 // The octets of a vector.
-const SIZE: u64 = aka::VECTOR as u64;
+const SIZE: u64 = aka::VECTOR_SIZE as u64;
 
 // Whether refusal 2 does not apply.
 pub fn count_fits(count: u64) -> bool

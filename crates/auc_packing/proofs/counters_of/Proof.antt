@@ -4,6 +4,7 @@ use native.Mathlib.Omega.{arith}
 use Rattle.octets.specs.Octets.{encode}
 use Rattle.functions.specs.Sets.{sets}
 use Rattle.aka.proofs.Outcomes.{valid-iff}
+use Rattle.aka.specs.Sequence.{width}
 use Rattle.auc_record.specs.Views.{aucOf}
 use Rattle.auc_packing.proofs.Bits.{one-number}
 use borrow.Author.Needs.{needs}
@@ -11,18 +12,18 @@ use Rattle.auc_packing.proofs.counters_of.Statement.{statement}
 use Rattle.auc_packing.proofs.counters_of.Tie as tie
 
 mul-sqn-octets : tie.Need-mul-sqn-octets
-mul-sqn-octets c = omega (arith, valid-iff 5 sets (aucOf (c .before .args .auc)) .0 (c .before .pre) .1)
+mul-sqn-octets c = omega (arith, valid-iff width sets (aucOf (c .before .args .auc)) .0 (c .before .pre) .1)
 
 add-sqn-octets : tie.Need-add-sqn-octets
 add-sqn-octets c =
     let entry = c .before .before in
-    omega (arith, valid-iff 5 sets (aucOf (entry .args .auc)) .0 (entry .pre) .1)
+    omega (arith, valid-iff width sets (aucOf (entry .args .auc)) .0 (entry .pre) .1)
 
 returns : tie.Need-returns
 returns c =
     let entry = c .before .before .before in
     let auc = entry .args .auc in
-    let valid = valid-iff 5 sets (aucOf auc) .0 (entry .pre) in
+    let valid = valid-iff width sets (aucOf auc) .0 (entry .pre) in
     c .sqn-octets .ensures ∙ ap (encode 6) (sym (one-number (auc .seqhe) (auc .next) (omega (arith, valid .1)) (valid .2)))
 
 pub counters-of-spec : {M : Type 1} → statement M

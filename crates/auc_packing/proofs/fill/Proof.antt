@@ -7,6 +7,7 @@ use Rattle.octets.specs.Octets.{Octets, number, encode}
 use Rattle.functions.specs.Sets.{sets}
 use Rattle.aka.specs.Auc.{Auc}
 use Rattle.aka.proofs.Outcomes.{valid-iff}
+use Rattle.aka.specs.Sequence.{width}
 use Rattle.auc_record.specs.Views.{aucOf}
 use Rattle.image_parts.specs.Head.{head}
 use Rattle.auc_packing.specs.Image.{bits, image}
@@ -21,7 +22,7 @@ joined w auc e f g = rw (g, f, e) (append-assoc (head (auc .keys)) (auc .amf) _)
 put-head-requires : tie.Need-put-head-requires
 put-head-requires c κs =
     let entry = c .before .before .before .before .before in
-    (omega (arith, entry .pre .1), valid-iff 5 sets (aucOf (entry .args .auc)) .0 (entry .pre .0) .0)
+    (omega (arith, entry .pre .1), valid-iff width sets (aucOf (entry .args .auc)) .0 (entry .pre .0) .0)
 
 returns : tie.Need-returns
 returns c =

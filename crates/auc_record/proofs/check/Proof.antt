@@ -7,12 +7,13 @@ use lib.ListN.{length}
 use Rattle.functions.specs.Sets.{sets}
 use Rattle.aka.specs.Auc.{validAuc, unlessRefused}
 use Rattle.aka.proofs.Outcomes.{valid-iff}
+use Rattle.aka.specs.Sequence.{width}
 use Rattle.auc_record.specs.Views.{aucOf}
 use borrow.Author.Needs.{needs}
 use Rattle.auc_record.proofs.check.Statement.{statement}
 use Rattle.auc_record.proofs.check.Tie as tie
 
-valid : (c : tie.Else1) → validAuc 5 sets (aucOf (c .before .before .before .args .auc)) ≡ true
+valid : (c : tie.Else1) → validAuc width sets (aucOf (c .before .before .before .args .auc)) ≡ true
 valid c = sym (c .before .is-valid .ensures) ∙ not-false _ (c .if1 .left)
 
 returns : tie.Need-returns
@@ -78,7 +79,7 @@ returns-7 c =
     let entry = counted .before .before .before .before .before in
     let good : entry .args .lent ≡ true = not-false _ (named .if5 .left) in
     let record-valid = valid (counted .before .before) in
-    let parts = valid-iff 5 sets (aucOf (entry .args .auc)) .0 record-valid in
+    let parts = valid-iff width sets (aucOf (entry .args .auc)) .0 record-valid in
     record {
       outcome = λ rest. rw (record-valid, le-ltb _ _ (counted .before .if2 .left), ← counted .count-of .ensures .0, eq-eqb _ _ (named .before .before .if3 .left), eq-eqb _ _ (named .before .if4 .left), good, ← c .before .equal-pair .ensures, c .if6 .left) refl;
       passed = record {

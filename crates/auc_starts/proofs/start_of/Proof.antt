@@ -9,6 +9,7 @@ use Rattle.functions.specs.Challenge.{Started}
 use Rattle.functions.specs.Sets.{sets}
 use Rattle.aka.specs.Functions.{Keys}
 use Rattle.aka.specs.Auc.{inRange, macSRight, seqMsIn}
+use Rattle.aka.specs.Sequence.{width}
 use Rattle.auc_starts.specs.Starts.{startFrom}
 use borrow.Author.Needs.{needs}
 use Rattle.auc_starts.proofs.start_of.Statement.{statement}
@@ -19,7 +20,7 @@ entry c = c .before .before .before
 
 module _ (c : tie.After-in-range) (keys : Keys) (rand : Octets) (s : Started keys rand (entry c .args .w .now) (entry c .args .c)) where
   abbrev ms : ℕ
-  ms = seqMsIn 5 (sets .under keys) rand (entry c .args .auts)
+  ms = seqMsIn width (sets .under keys) rand (entry c .args .auts)
 
   ms-is : c .before .sqn-number .result / 32 ≡ ms
   ms-is = ap (λ (x : ℕ). x / 32) (c .before .sqn-number .ensures .0 ∙ ap decode (c .before .before .sqn-ms .ensures keys rand s))

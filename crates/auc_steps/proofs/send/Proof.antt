@@ -5,7 +5,7 @@ use borrow.Author.Tests.{lt-ltb, le-ltb}
 use Rattle.octets.specs.Octets.{Octets}
 use Rattle.functions.specs.Sets.{sets}
 use Rattle.aka.specs.Functions.{Keys}
-use Rattle.aka.specs.Sequence.{limit}
+use Rattle.aka.specs.Sequence.{limit, width}
 use Rattle.aka.specs.Auc.{Auc, AucAnswer, Outcome, batchFrom}
 use Rattle.auc_record.specs.Views.{aucOf, outcomeOf}
 use Rattle.auc_record.specs.Steps.{sentFrom}
@@ -17,12 +17,12 @@ returns : tie.Need-returns
 unfolding sentFrom
 returns c =
     let args = c .before .before .before .before .args in
-    c .refused .ensures (args .batch .now) ∙ rw (lt-ltb (limit 5) (args .start + args .n) (c .before .if1 .taken)) refl
+    c .refused .ensures (args .batch .now) ∙ rw (lt-ltb (limit width) (args .start + args .n) (c .before .if1 .taken)) refl
 
 -- a batch does not depend on SEQ_HE
 same-batch : (keys : Keys) (amf : Octets) (he he′ next start : ℕ) (rands : Octets) (n : ℕ)
-    → batchFrom 5 sets (record { keys = keys; amf = amf; seqhe = he; next = next }) start rands n
-    ≡ batchFrom 5 sets (record { keys = keys; amf = amf; seqhe = he′; next = next }) start rands n
+    → batchFrom width sets (record { keys = keys; amf = amf; seqhe = he; next = next }) start rands n
+    ≡ batchFrom width sets (record { keys = keys; amf = amf; seqhe = he′; next = next }) start rands n
 unfolding batchFrom
 same-batch keys amf he he′ next start rands n = refl
 
@@ -36,7 +36,7 @@ returns-2 c =
     let checked = filled .before .before .before .before in
     let args = checked .before .before .before .args in
     let auc = aucOf (args .auc) in
-    rw (le-ltb (limit 5) (args .start + args .n) (checked .if1 .left))
+    rw (le-ltb (limit width) (args .start + args .n) (checked .if1 .left))
     (ap₂ (λ (a : Auc) (b : Octets). sentAs (outcomeOf (args .outcome)) (args .n) a b) (c .after .ensures)
     (filled .fill .ensures ∙ same-batch (auc .keys) (auc .amf) (args .start) (auc .seqhe) (auc .next) (args .start) (args .rands .now) (args .n)))
 

@@ -10,6 +10,7 @@ use Rattle.functions.specs.Sets.{sets}
 use Rattle.aka.specs.Auc.{batchFrom, vectorFrom}
 use Rattle.aka.specs.Layout.{writeVector}
 use Rattle.aka.proofs.Steps.{batch-none, batch-next}
+use Rattle.aka.specs.Sequence.{width}
 use Rattle.batches.specs.Views.{countedBy}
 use borrow.Author.Needs.{needs}
 use Rattle.batches.proofs.fill.Statement.{statement}
@@ -17,7 +18,7 @@ use Rattle.batches.proofs.fill.Tie as tie
 
 abbrev Inv-loop : tie.InvT-loop
 Inv-loop t w s rands n batch₀ k₀ batch k =
-    (k ≤ n) × (length batch ≡ length batch₀) × (take (72 * k) batch ≡ batchFrom 5 sets (countedBy s) (s .start) rands k)
+    (k ≤ n) × (length batch ≡ length batch₀) × (take (72 * k) batch ≡ batchFrom width sets (countedBy s) (s .start) rands k)
 
 abbrev μ-loop : tie.MeasureT-loop
 μ-loop t w s rands n batch₀ k₀ batch k = n - k
@@ -25,7 +26,7 @@ abbrev μ-loop : tie.MeasureT-loop
 loop-holds : tie.Need-loop-holds Inv-loop μ-loop
 loop-holds c =
     let args = c .before .before .args in
-    (omega arith, refl, sym (batch-none 5 sets (countedBy (args .s)) (args .s .start) (args .rands .now)))
+    (omega arith, refl, sym (batch-none width sets (countedBy (args .s)) (args .s .start) (args .rands .now)))
 
 put-at-requires : tie.Need-put-at-requires Inv-loop μ-loop
 put-at-requires c κs =
@@ -48,8 +49,8 @@ loop-again c =
       put .put-at .kept .1 .1 .1 .1 .1 .0 ∙ loop .loop .inv .1,
       ap (λ (m : ℕ). take m (put .put-at .last .1 .1 .1 .1 .1 .0)) further
           ∙ put .put-at .ensures
-          ∙ ap (λ (l : Octets). l ++ writeVector (vectorFrom 5 sets auc (args .s .start) rands k)) (loop .loop .inv .2)
-          ∙ sym (batch-next 5 sets auc (args .s .start) rands k),
+          ∙ ap (λ (l : Octets). l ++ writeVector (vectorFrom width sets auc (args .s .start) rands k)) (loop .loop .inv .2)
+          ∙ sym (batch-next width sets auc (args .s .start) rands k),
     )
 
 returns : tie.Need-returns Inv-loop μ-loop
@@ -60,7 +61,7 @@ returns c =
     let end : loop .loop .k ≡ args .n = omega arith in
     sym (take-all (72 * loop .loop .k) (loop .loop .batch) (omega (arith, end, loop .loop .inv .1, entry .pre .1 .1 .1)))
     ∙ loop .loop .inv .2
-    ∙ ap (batchFrom 5 sets (countedBy (args .s)) (args .s .start) (args .rands .now)) end
+    ∙ ap (batchFrom width sets (countedBy (args .s)) (args .s .start) (args .rands .now)) end
 
 pub fill-spec : {M : Type 1} → statement M
 fill-spec =

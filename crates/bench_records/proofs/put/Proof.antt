@@ -2,7 +2,7 @@
 use mathlib.Core.Path.{sym, ap, _∙_}
 use native.Mathlib.Omega.{arith}
 use borrow.Author.Tests.{le-leb, lt-leb, lt-ltb, le-ltb}
-use Rattle.aka.specs.Sequence.{limit}
+use Rattle.aka.specs.Sequence.{limit, width}
 use Rattle.bench_replies.specs.Replies.{putOk}
 use Rattle.bench_state.specs.Bench.{Bench, stays, unlessRefused, put}
 use borrow.Author.Needs.{needs}
@@ -11,13 +11,13 @@ use Rattle.bench_records.proofs.put.Tie as tie
 
 returns : tie.Need-returns
 unfolding put unlessRefused
-returns c = c .stays .ensures ∙ sym (rw (lt-leb _ (limit 5) (c .before .if1 .taken)))
+returns c = c .stays .ensures ∙ sym (rw (lt-leb _ (limit width) (c .before .if1 .taken)))
 
 returns-2 : tie.Need-returns-2
 unfolding put unlessRefused
 returns-2 c =
     let first = c .before .before in
-    c .stays2 .ensures ∙ sym (rw (le-leb _ (limit 5) (first .if1 .left), le-ltb (first .before .args .next) 32 (omega (arith, c .before .if2 .taken))))
+    c .stays2 .ensures ∙ sym (rw (le-leb _ (limit width) (first .if1 .left), le-ltb (first .before .args .next) 32 (omega (arith, c .before .if2 .taken))))
 
 returns-3 : tie.Need-returns-3
 unfolding put unlessRefused
@@ -26,7 +26,7 @@ returns-3 c =
     let first = second .before in
     c .stays3 .ensures
     ∙ ap (λ (b : Bench). stays b putOk) (c .before .with-counters .ensures)
-    ∙ sym (rw (le-leb _ (limit 5) (first .if1 .left), lt-ltb (first .before .args .next) 32 (omega (arith, second .if2 .left))))
+    ∙ sym (rw (le-leb _ (limit width) (first .if1 .left), lt-ltb (first .before .args .next) 32 (omega (arith, second .if2 .left))))
 
 pub put-spec : {M : Type 1} → statement M
 put-spec =

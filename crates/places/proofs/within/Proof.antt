@@ -5,14 +5,14 @@ use native.Mathlib.Omega.{arith}
 use borrow.Author.Needs.{needs}
 use borrow.Author.Tests.{le-leb, lt-leb}
 use lib.ListN.{drop, drop-of-length-le}
-use Rattle.aka.specs.Sequence.{limit}
+use Rattle.aka.specs.Sequence.{limit, width}
 use Rattle.aka.specs.Usim.{allWithin}
 use Rattle.octets.proofs.Parts.{drop-next}
 use Rattle.places.proofs.within.Statement.{statement}
 use Rattle.places.proofs.within.Tie as tie
 
 abbrev Inv-loop : tie.InvT-loop
-Inv-loop places i₀ i = (i ≤ 32) × (allWithin (limit 5) places ≡ allWithin (limit 5) (drop i places))
+Inv-loop places i₀ i = (i ≤ 32) × (allWithin (limit width) places ≡ allWithin (limit width) (drop i places))
 
 abbrev μ-loop : tie.MeasureT-loop
 μ-loop places i₀ i = 32 - i
@@ -22,14 +22,14 @@ unfolding allWithin
 returns c =
     let l = c .before .before in
     let places = l .before .args .t1 in
-    sym (l .loop .inv .1 ∙ rw (drop-next places (l .loop .i) (omega arith), lt-leb _ (limit 5) (c .if1 .taken)))
+    sym (l .loop .inv .1 ∙ rw (drop-next places (l .loop .i) (omega arith), lt-leb _ (limit width) (c .if1 .taken)))
 
 loop-again : tie.Need-loop-again Inv-loop μ-loop
 unfolding allWithin
 loop-again c =
     let l = c .before .before in
     let places = l .before .args .t1 in
-    (omega arith, l .loop .inv .1 ∙ rw (drop-next places (l .loop .i) (omega arith), le-leb _ (limit 5) (c .if1 .left)))
+    (omega arith, l .loop .inv .1 ∙ rw (drop-next places (l .loop .i) (omega arith), le-leb _ (limit width) (c .if1 .left)))
 
 returns-2 : tie.Need-returns-2 Inv-loop μ-loop
 unfolding allWithin

@@ -8,6 +8,7 @@ use Rattle.functions.specs.Challenge.{keysOf, Started}
 use Rattle.functions.specs.Sets.{sets}
 use Rattle.aka.specs.Layout.{readAutn}
 use Rattle.aka.specs.Usim.{macFailure, sqnIn, judgement, answerWith}
+use Rattle.aka.specs.Sequence.{width}
 use Rattle.usim_record.specs.Views.{usimOf}
 use borrow.Author.Needs.{needs}
 use Rattle.usim.proofs.judge.Statement.{statement}
@@ -30,7 +31,7 @@ returns c = λ rand s.
     let usim = usimOf (start .args .usim) in
     let sqn = sqn-is (judged .before) rand s in
     let wrong : judged .mac-right .result ≡ false = not-true _ (c .before .if1 .taken) in
-    let mac : judgement 5 sets usim rand (start .args .autn) ≡ macFailure = rw (← judged .mac-right .ensures (usim .keys) rand s sqn, wrong) refl in
+    let mac : judgement width sets usim rand (start .args .autn) ≡ macFailure = rw (← judged .mac-right .ensures (usim .keys) rand s sqn, wrong) refl in
     rw mac (record { answer = c .unchanged .ensures .0; sqn = rw (c .unchanged .ensures .1); fits = rw (c .unchanged .ensures .1) (omega arith) })
 
 returns-2 : tie.Need-returns-2

@@ -6,6 +6,7 @@ use borrow.Author.Tests.{not-true, not-false}
 use Rattle.functions.specs.Challenge.{keysOf}
 use Rattle.functions.specs.Sets.{sets}
 use Rattle.aka.specs.Usim.{accepted, syncFailure, unchanged, judgement, answerWith}
+use Rattle.aka.specs.Sequence.{width}
 use Rattle.usim_record.specs.Views.{usimOf}
 use borrow.Author.Needs.{needs}
 use Rattle.usim.proofs.judge_sqn.Statement.{statement}
@@ -17,7 +18,7 @@ returns c = λ rand autn a.
     let judged = c .before .before .before in
     let usim = judged .before .before .args .usim in
     let stale : judged .is-fresh .result ≡ false = not-true _ (c .before .before .if1 .taken) in
-    let sync : judgement 5 sets (usimOf usim) rand autn ≡ syncFailure = rw (a .mac, ← a .sqn, ← judged .is-fresh .ensures, stale) refl in
+    let sync : judgement width sets (usimOf usim) rand autn ≡ syncFailure = rw (a .mac, ← a .sqn, ← judged .is-fresh .ensures, stale) refl in
     rw sync
     (record {
       answer = c .unchanged .ensures .0 ∙ ap (unchanged syncFailure (usimOf usim)) (c .before .auts .ensures (keysOf (usim .keys)) rand (a .started));
@@ -31,7 +32,7 @@ returns-2 c = λ rand autn a.
     let judged = c .before .before in
     let usim = judged .before .before .args .usim in
     let new : judged .is-fresh .result ≡ true = not-false _ (c .before .if1 .left) in
-    let yes : judgement 5 sets (usimOf usim) rand autn ≡ accepted = rw (a .mac, ← a .sqn, ← judged .is-fresh .ensures, new) refl in
+    let yes : judgement width sets (usimOf usim) rand autn ≡ accepted = rw (a .mac, ← a .sqn, ← judged .is-fresh .ensures, new) refl in
     rw yes (c .accept .ensures rand autn a)
 
 pub judge-sqn-spec : {M : Type 1} → statement M

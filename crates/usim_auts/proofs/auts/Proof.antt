@@ -4,7 +4,7 @@ use Rattle.octets.specs.Octets.{Octets, xor, encode}
 use Rattle.functions.specs.Sets.{sets}
 use Rattle.aka.specs.Functions.{dummyAmf}
 use Rattle.aka.specs.Layout.{writeAuts}
-use Rattle.aka.specs.Sequence.{limit}
+use Rattle.aka.specs.Sequence.{limit, width}
 use Rattle.aka.specs.Usim.{sqnMs, makeAuts}
 use Rattle.aka.proofs.Places.{within}
 use Rattle.aka.proofs.Verdicts.{valid-parts}
@@ -16,14 +16,14 @@ use Rattle.usim_auts.proofs.auts.Tie as tie
 sqn-ms-requires : tie.Need-sqn-ms-requires
 sqn-ms-requires c κs =
     let usim = c .before .args .usim in
-    within (limit 5) (usim .places) (valid-parts 5 sets (usimOf usim) (c .before .pre .1) .1)
+    within (limit width) (usim .places) (valid-parts width sets (usimOf usim) (c .before .pre .1) .1)
 
 returns : tie.Need-returns
 unfolding makeAuts
 returns c = λ keys rand s.
     let made = c .before .before .before in
     let usim = made .before .before .before .args .usim in
-    let sqn : made .sqn-octets .result ≡ encode 6 (sqnMs 5 (usimOf usim)) = made .sqn-octets .ensures ∙ ap (encode 6) (made .before .sqn-ms .ensures) in
+    let sqn : made .sqn-octets .result ≡ encode 6 (sqnMs width (usimOf usim)) = made .sqn-octets .ensures ∙ ap (encode 6) (made .before .sqn-ms .ensures) in
     c .auts .ensures
     ∙ ap₂ (λ (x y : Octets). writeAuts (record { concealed = x; mac = y }))
     (ap₂ xor sqn (c .before .before .ak-star .ensures keys rand s))

@@ -6,6 +6,7 @@ use Rattle.functions.specs.Sets.{sets}
 use Rattle.functions.proofs.Protocol.{usim-holds}
 use Rattle.aka.specs.Functions.{Keys}
 use Rattle.aka.specs.Usim.{Usim, newUsim}
+use Rattle.aka.specs.Sequence.{width}
 use Rattle.usim_image.specs.Image.{writeAnswer}
 use Rattle.vetrhoss.specs.Interface.{newUsimCall}
 use Rattle.vetrhoss.proofs.Filling.{toFilled, usim-written}
@@ -38,12 +39,12 @@ returns-4 c =
     let sized = made .before .before in
     let args = sized .before .before .before .before .before .before .before .args in
     let named = known (sized .before .before) in
-    let card : Usim = newUsim 5 (record { set = args .set; k = args .k .now; opc = args .opc .now }) in
+    let card : Usim = newUsim width (record { set = args .set; k = args .k .now; opc = args .opc .now }) in
     rw (named, eq-eqb _ 16 (sized .before .if2 .left), eq-eqb _ 16 (sized .if3 .left))
     (ap toFilled
     (written .write .ensures
-    ∙ ap (λ (u : Usim). writeAnswer 5 sets u (args .image .now))
-    (made .new .ensures ∙ ap (newUsim 5) (made .before .keys-from .ensures)))
+    ∙ ap (λ (u : Usim). writeAnswer width sets u (args .image .now))
+    (made .new .ensures ∙ ap (newUsim width) (made .before .keys-from .ensures)))
     ∙ usim-written card (args .image .now) (usim-holds .new-valid _ named))
 
 pub vetrhoss-new-usim-spec : {M : Type 1} → statement M

@@ -6,6 +6,7 @@ use lib.ListN.{length}
 use Rattle.functions.specs.Sets.{sets}
 use Rattle.functions.proofs.Protocol.{auc-holds}
 use Rattle.aka.specs.Auc.{AucAnswer, validAuc}
+use Rattle.aka.specs.Sequence.{width}
 use Rattle.vetrhoss.specs.Interface.{onImage}
 use Rattle.vetrhoss.proofs.Centre.{held, handed-on}
 use borrow.Author.Needs.{needs}
@@ -21,7 +22,7 @@ settle-requires c κs =
     let answered = c .before .before .before in
     let is-read = answered .before .before in
     let sound = held _ _ (is-read .before .before .before .read .ensures) (is-read .if1 .left) in
-    (ap (λ (a : AucAnswer). validAuc 5 sets (a .auc)) (answered .resynchronise .ensures) ∙ auc-holds .resyncs _ _ _ _ _ _ .stays-valid (sound .1), sound .0)
+    (ap (λ (a : AucAnswer). validAuc width sets (a .auc)) (answered .resynchronise .ensures) ∙ auc-holds .resyncs _ _ _ _ _ _ .stays-valid (sound .1), sound .0)
 
 returns-2 : tie.Need-returns-2
 unfolding onImage
