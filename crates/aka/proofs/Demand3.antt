@@ -12,8 +12,10 @@ use Rattle.aka.specs.Layout.{randSize, randAt, vectorAt}
 use Rattle.aka.specs.Functions.{Functions, Family, Lengths, Lawful}
 use Rattle.aka.specs.Sequence.{D, limit}
 use Rattle.aka.specs.Usim.{Usim, UsimAnswer, seqMs, syncFailure, unchanged}
-use Rattle.aka.specs.Auc.{AucAnswer, kept, reset, seqAt, indAt, batchFrom, inRange, startOf, macSRight, seqMsIn, makeVector, after, resync}
-use Rattle.aka.specs.Demand3.{Setting, Step, Each, Holds, Premise, Conclusion, Demand3, n, failure, renewal, stepsOf, steps, OtherNotAccepted}
+use Rattle.aka.specs.Auc.{AucAnswer, kept, reset, seqAt, indAt, batchFrom, inRange, startOf, macSRight, seqMsIn, makeVector}
+use Rattle.aka.specs.Auc.{after, resync}
+use Rattle.aka.specs.Demand3.{Setting, Call, AnsweredCall, Each, Promised, Premise, Conclusion, Demand3, OtherNotAccepted}
+use Rattle.aka.specs.Demand3.{n, failure, renewal, answered, answersTo}
 use Rattle.aka.proofs.Places.{within}
 use Rattle.aka.proofs.Tokens.{sqnOctets}
 use Rattle.aka.proofs.Failures.{autsOf, auts-is-long, auts-is-right, auts-has}
@@ -22,11 +24,11 @@ use Rattle.aka.proofs.Batches.{count-le, length-rand, batch-vector}
 use Rattle.aka.proofs.Outcomes.{start-bounds, valid-iff, resync-sent}
 use Rattle.aka.proofs.Rising.{Rising, Counted, all-calls}
 
--- ---- each step
+-- ---- each call
 
-each-map : {P Q : Step → Type 0} → ((s : Step) → P s → Q s) → (l : List Step) → Each P l → Each Q l
+each-map : {P Q : AnsweredCall → Type 0} → ((c : AnsweredCall) → P c → Q c) → (l : List AnsweredCall) → Each P l → Each Q l
 each-map f [] h = tt
-each-map f (s ∷ l) h = (f s (h .0), each-map f l (h .1))
+each-map f (c ∷ l) h = (f c (h .0), each-map f l (h .1))
 
 -- ---- the theorem
 
@@ -51,7 +53,11 @@ module _ (w : ℕ) (hw : w ≤ 48) (family : Family) (lawful : Lawful family) (s
   L′ = subst (λ k. Lengths (family .under k)) (sym (p .same-keys)) L
 
   rand-size : length (s .rand) ≡ randSize
-  rand-size = sized-true (s .rand) (s .autn) (verdict-sized w family (s .usim) (s .rand) (s .autn) syncFailure (λ number e. let z : _≡_ {A = ℕ} 0 1 = cc in omega arith) (p .failed)) .0
+  rand-size =
+      sized-true (s .rand) (s .autn)
+      (verdict-sized w family (s .usim) (s .rand) (s .autn) syncFailure (λ number e. let z : _≡_ {A = ℕ} 0 1 = cc in omega arith)
+      (p .failed))
+      .0
 
   abbrev auts : Octets
   auts = autsOf w hw family (s .usim) L (p .usim-valid) (p .usim-places) (s .rand) rand-size
@@ -64,10 +70,14 @@ module _ (w : ℕ) (hw : w ≤ 48) (family : Family) (lawful : Lawful family) (s
   same = ap (family .under) (p .same-keys)
 
   right : macSRight (family .under (s .auc .keys)) (s .rand) auts ≡ true
-  right = ap (λ G. macSRight G (s .rand) auts) same ∙ auts-is-right w hw family (s .usim) L (p .usim-valid) (p .usim-places) (s .rand) rand-size
+  right =
+      ap (λ G. macSRight G (s .rand) auts) same
+      ∙ auts-is-right w hw family (s .usim) L (p .usim-valid) (p .usim-places) (s .rand) rand-size
 
   has : seqMsIn w (family .under (s .auc .keys)) (s .rand) auts ≡ ms
-  has = ap (λ G. seqMsIn w G (s .rand) auts) same ∙ auts-has w hw family (s .usim) L (p .usim-valid) (p .usim-places) (s .rand) rand-size
+  has =
+      ap (λ G. seqMsIn w G (s .rand) auts) same
+      ∙ auts-has w hw family (s .usim) L (p .usim-valid) (p .usim-places) (s .rand) rand-size
 
   bounds : (ms ≤ st) × (st + N ≤ ms + D) × (st + N ≤ limit w)
   bounds = start-bounds (s .auc .seqhe) ms N (limit w) (omega (arith, count-le (s .count) (p .count))) (p .room-ms) (p .room-he)
@@ -81,7 +91,8 @@ module _ (w : ℕ) (hw : w ≤ 48) (family : Family) (lawful : Lawful family) (s
   }
   renewal-is =
       ap (λ (a : UsimAnswer). resync w family (s .auc) (s .count) (s .rands) (s .buffer) (s .rand) (a .auts)) failure-is
-      ∙ resync-sent w family (s .auc) (s .count) (s .rands) (s .buffer) (p .auc-valid) (p .count) (p .rands) (p .buffer) (p .unequal-rands) (s .rand) auts rand-size
+      ∙ resync-sent w family (s .auc) (s .count) (s .rands) (s .buffer)
+      (p .auc-valid) (p .count) (p .rands) (p .buffer) (p .unequal-rands) (s .rand) auts rand-size
       (auts-is-long w hw family (s .usim) L (p .usim-valid) (p .usim-places) (s .rand) rand-size)
       (rw (right, has) (or-true (inRange (s .auc .seqhe) ms N))) (rw has (bounds .2))
       ∙ rw has
@@ -89,7 +100,8 @@ module _ (w : ℕ) (hw : w ≤ 48) (family : Family) (lawful : Lawful family) (s
   abbrev batch : Octets
   batch = renewal w family s .batch
 
-  vectors : (k : ℕ) → k < N → vectorAt batch k ≡ makeVector F (sqnOctets w (seqAt st k) (indAt (s .auc) k)) (s .auc .amf) (randAt (s .rands) k)
+  vectors : (k : ℕ) → k < N
+      → vectorAt batch k ≡ makeVector F (sqnOctets w (seqAt st k) (indAt (s .auc) k)) (s .auc .amf) (randAt (s .rands) k)
   vectors k h =
       ap (λ (a : AucAnswer). vectorAt (a .batch) k) renewal-is
       ∙ batch-vector w family (s .auc) L′ (p .auc-amf) st (s .rands) N (p .rands) k h
@@ -110,11 +122,24 @@ module _ (w : ℕ) (hw : w ≤ 48) (family : Family) (lawful : Lawful family) (s
   }
 
   -- SEQ_HE is ahead of SEQ_MS by the vectors that follow
-  holds : (x : Step) → Counted w F batch N (seqAt st) x → Holds w F batch N (renewal w family s .auc .seqhe) x
-  holds x c = record {
-    taken = c .taken;
-    ahead = λ k e. ap (λ (a : AucAnswer). a .auc .seqhe) renewal-is ∙ omega (arith, c .inside k e, c .number k e);
+  seqhe-is : renewal w family s .auc .seqhe ≡ st + N
+  seqhe-is = ap (λ (a : AucAnswer). a .auc .seqhe) renewal-is
+
+  promised : (c : AnsweredCall) → Counted w F batch N (seqAt st) c → Promised w F batch N (renewal w family s .auc .seqhe) c
+  promised c x = record {
+    accepts = x .accepts;
+    ahead = λ k e. rw seqhe-is (omega (arith, x .inside k e, x .number k e));
   }
+
+  -- from the record that the failure left
+  abbrev Goal : Usim → List Call → Type 0
+  Goal u calls = Each OtherNotAccepted (answersTo w family batch N u none calls)
+      → Each (Counted w F batch N (seqAt st)) (answersTo w family batch N u none calls)
+
+  counted : (calls : List Call) → Goal (s .usim) calls
+  counted calls =
+      all-calls w family (s .usim) L batch N (s .auc .amf) (seqAt st) (indAt (s .auc)) (randAt (s .rands)) rising
+      (p .usim-places) (valid-parts w family (s .usim) (p .usim-valid) .1) calls
 
   kept-or-reset : (b : Bool) → (cond b kept reset ≡ kept) ⊎ (cond b kept reset ≡ reset)
   kept-or-reset true = inl refl
@@ -122,12 +147,10 @@ module _ (w : ℕ) (hw : w ≤ 48) (family : Family) (lawful : Lawful family) (s
 
   conclusion : Conclusion w family s
   conclusion = record {
-    sent = subst (λ (a : AucAnswer). (a .outcome ≡ kept) ⊎ (a .outcome ≡ reset)) (sym renewal-is) (kept-or-reset (inRange (s .auc .seqhe) ms N));
-    all = λ calls others. each-map holds (stepsOf w family s calls)
-        (subst (λ (u : Usim). Each OtherNotAccepted (steps w family batch N u none calls) → Each (Counted w F batch N (seqAt st)) (steps w family batch N u none calls))
-        (sym (ap (λ (a : UsimAnswer). a .usim) failure-is))
-        (all-calls w family (s .usim) L batch N (s .auc .amf) (seqAt st) (indAt (s .auc)) (randAt (s .rands)) rising (p .usim-places) (valid-parts w family (s .usim) (p .usim-valid) .1) calls)
-        others);
+    sent = subst (λ (a : AucAnswer). (a .outcome ≡ kept) ⊎ (a .outcome ≡ reset)) (sym renewal-is)
+        (kept-or-reset (inRange (s .auc .seqhe) ms N));
+    all = λ calls others. each-map promised (answered w family s calls)
+        (subst (λ (u : Usim). Goal u calls) (sym (ap (λ (a : UsimAnswer). a .usim) failure-is)) (counted calls) others);
   }
 
 pub demand3 : Demand3

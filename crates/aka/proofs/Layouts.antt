@@ -1,5 +1,5 @@
 -- Laws of the layouts: what was written is read, what was read is written, and parts of strings that were joined. Assumes nothing.
-use Prim.Native.Nat.{ℕ, zero, suc, _+_, _*_, _≤_, _<_}
+use Prim.Native.Nat.{ℕ, zero, suc, _+_, _-_, _*_, _≤_, _<_}
 use mathlib.Core.List.{_++_}
 use mathlib.Core.Logic.{⊎-elim}
 use mathlib.Core.Path.{_≡_, sym, ap₂, _∙_}
@@ -8,7 +8,9 @@ use native.Mathlib.Omega.{arith}
 use lib.ListN.{length, drop, length-append, length-drop}
 use lib.Seq.{take-all, drop-at, drop-append-le, take-append-le}
 use Rattle.octets.specs.Octets.{Octets, part}
-use Rattle.aka.specs.Layout.{Autn, Auts, Vector, randSize, resSize, ckSize, ikSize, sqnSize, amfSize, macSize, autnSize, autsSize, vectorSize, writeAutn, readAutn, writeAuts, readAuts, writeVector, readVector, joined}
+use Rattle.aka.specs.Layout.{Autn, Auts, Vector, randSize, resSize, ckSize, ikSize, sqnSize, amfSize, macSize}
+use Rattle.aka.specs.Layout.{autnSize, autsSize, vectorSize, xresAt, ckAt, ikAt}
+use Rattle.aka.specs.Layout.{writeAutn, readAutn, writeAuts, readAuts, writeVector, readVector, joined}
 use Rattle.octets.proofs.Parts.{front, past, whole, meet}
 
 -- ---- AUTN
@@ -25,14 +27,16 @@ length-autn a h = simp length-append (omega arith)
 pub read-autn : (a : Autn) → AutnSized a → readAutn (writeAutn a) ≡ a
 unfolding writeAutn readAutn
 read-autn a h = λ i. record {
-  concealed = front (a .concealed) (a .amf ++ a .mac) 6 (h .concealed) i;
-  amf = (past (a .concealed) (a .amf ++ a .mac) 6 0 2 (h .concealed) ∙ front (a .amf) (a .mac) 2 (h .amf)) i;
-  mac = (past (a .concealed) (a .amf ++ a .mac) 6 2 8 (h .concealed) ∙ past (a .amf) (a .mac) 2 0 8 (h .amf) ∙ whole (a .mac) 8 (h .mac)) i;
+  concealed = front (a .concealed) (a .amf ++ a .mac) sqnSize (h .concealed) i;
+  amf = (past (a .concealed) (a .amf ++ a .mac) sqnSize 0 amfSize (h .concealed) ∙ front (a .amf) (a .mac) amfSize (h .amf)) i;
+  mac = (past (a .concealed) (a .amf ++ a .mac) sqnSize amfSize macSize (h .concealed)
+      ∙ past (a .amf) (a .mac) amfSize 0 macSize (h .amf)
+      ∙ whole (a .mac) macSize (h .mac)) i;
 }
 
 pub write-autn : (x : Octets) → length x ≡ autnSize → writeAutn (readAutn x) ≡ x
 unfolding writeAutn readAutn
-write-autn x h = rw (meet 6 2 8 x, meet 0 6 10 x) (whole x 16 h)
+write-autn x h = rw (meet sqnSize amfSize macSize x, meet 0 sqnSize (amfSize + macSize) x) (whole x autnSize h)
 
 -- ---- AUTS
 
@@ -47,13 +51,13 @@ length-auts a h = simp length-append (omega arith)
 pub read-auts : (a : Auts) → AutsSized a → readAuts (writeAuts a) ≡ a
 unfolding writeAuts readAuts
 read-auts a h = λ i. record {
-  concealed = front (a .concealed) (a .mac) 6 (h .concealed) i;
-  mac = (past (a .concealed) (a .mac) 6 0 8 (h .concealed) ∙ whole (a .mac) 8 (h .mac)) i;
+  concealed = front (a .concealed) (a .mac) sqnSize (h .concealed) i;
+  mac = (past (a .concealed) (a .mac) sqnSize 0 macSize (h .concealed) ∙ whole (a .mac) macSize (h .mac)) i;
 }
 
 pub write-auts : (x : Octets) → length x ≡ autsSize → writeAuts (readAuts x) ≡ x
 unfolding writeAuts readAuts
-write-auts x h = rw (meet 0 6 8 x) (whole x 14 h)
+write-auts x h = rw (meet 0 sqnSize macSize x) (whole x autsSize h)
 
 -- ---- a vector
 
@@ -71,20 +75,36 @@ length-vector v h = simp length-append (omega arith)
 pub read-vector : (v : Vector) → VectorSized v → readVector (writeVector v) ≡ v
 unfolding writeVector readVector
 read-vector v h =
-    let keys = v .ck ++ (v .ik ++ v .autn) in
+    let last = v .ik ++ v .autn in
+    let keys = v .ck ++ last in
     let rest = v .xres ++ keys in
     λ i. record {
-      rand = front (v .rand) rest 16 (h .rand) i;
-      xres = (past (v .rand) rest 16 0 8 (h .rand) ∙ front (v .xres) keys 8 (h .xres)) i;
-      ck = (past (v .rand) rest 16 8 16 (h .rand) ∙ past (v .xres) keys 8 0 16 (h .xres) ∙ front (v .ck) (v .ik ++ v .autn) 16 (h .ck)) i;
-      ik = (past (v .rand) rest 16 24 16 (h .rand) ∙ past (v .xres) keys 8 16 16 (h .xres) ∙ past (v .ck) (v .ik ++ v .autn) 16 0 16 (h .ck) ∙ front (v .ik) (v .autn) 16 (h .ik)) i;
-      autn = (past (v .rand) rest 16 40 16 (h .rand) ∙ past (v .xres) keys 8 32 16 (h .xres) ∙ past (v .ck) (v .ik ++ v .autn) 16 16 16 (h .ck)
-          ∙ past (v .ik) (v .autn) 16 0 16 (h .ik) ∙ whole (v .autn) 16 (h .autn)) i;
+      rand = front (v .rand) rest randSize (h .rand) i;
+      xres = (past (v .rand) rest randSize 0 resSize (h .rand) ∙ front (v .xres) keys resSize (h .xres)) i;
+      ck = (past (v .rand) rest randSize resSize ckSize (h .rand)
+          ∙ past (v .xres) keys resSize 0 ckSize (h .xres)
+          ∙ front (v .ck) last ckSize (h .ck)) i;
+      ik = (past (v .rand) rest randSize (resSize + ckSize) ikSize (h .rand)
+          ∙ past (v .xres) keys resSize ckSize ikSize (h .xres)
+          ∙ past (v .ck) last ckSize 0 ikSize (h .ck)
+          ∙ front (v .ik) (v .autn) ikSize (h .ik)) i;
+      autn = (past (v .rand) rest randSize (resSize + ckSize + ikSize) autnSize (h .rand)
+          ∙ past (v .xres) keys resSize (ckSize + ikSize) autnSize (h .xres)
+          ∙ past (v .ck) last ckSize ikSize autnSize (h .ck)
+          ∙ past (v .ik) (v .autn) ikSize 0 autnSize (h .ik)
+          ∙ whole (v .autn) autnSize (h .autn)) i;
     }
 
 pub write-vector : (x : Octets) → length x ≡ vectorSize → writeVector (readVector x) ≡ x
 unfolding writeVector readVector
-write-vector x h = rw (meet 40 16 16 x, meet 24 16 32 x, meet 16 8 48 x, meet 0 16 56 x) (whole x 72 h)
+write-vector x h =
+    rw (
+      meet ikAt ikSize autnSize x,
+      meet ckAt ckSize (ikSize + autnSize) x,
+      meet xresAt resSize (ckSize + ikSize + autnSize) x,
+      meet 0 randSize (vectorSize - randSize) x,
+    )
+    (whole x vectorSize h)
 
 -- ---- strings of one length, joined
 

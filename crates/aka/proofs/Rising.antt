@@ -14,13 +14,15 @@ use Rattle.aka.specs.Functions.{Functions, Family, Lengths}
 use Rattle.aka.specs.Sequence.{D, indices, limit}
 use Rattle.aka.specs.Usim.{Usim, UsimAnswer, challenge, fresh, sized, validUsim, allWithin, highest, seqMs}
 use Rattle.aka.specs.Auc.{makeVector}
-use Rattle.aka.specs.Demand3.{Call, Step, Each, Taken, OtherNotAccepted, step, steps, carries, placeFrom, placeOf, later, latest, vectorSeq}
+use Rattle.aka.specs.Demand3.{Call, AnsweredCall, Each, FromBatch, OtherNotAccepted, answerTo, answersTo}
+use Rattle.aka.specs.Demand3.{carries, placeFrom, placeOf, later, latest, vectorSeq}
 use Rattle.aka.proofs.Places.{place-le, highest-set, within-set}
 use Rattle.aka.proofs.Tokens.{sqnOctets, autn-seq}
 use Rattle.aka.proofs.Verdicts.{fresh-iff, acceptedAnswer, made-accepted, not-accepted-unchanged}
 
 -- what is asked of a batch of n vectors
-pub record Rising (w : ℕ) (family : Family) (usim : Usim) (batch : Octets) (n : ℕ) (amf : Octets) (seq ind : ℕ → ℕ) (rand : ℕ → Octets) : Type 0 where
+pub record Rising (w : ℕ) (family : Family) (usim : Usim) (batch : Octets) (n : ℕ)
+    (amf : Octets) (seq ind : ℕ → ℕ) (rand : ℕ → Octets) : Type 0 where
   pub width : w ≤ 48
   pub known : family .known (usim .keys .set) ≡ true
   pub amf-size : length amf ≡ amfSize
@@ -30,13 +32,14 @@ pub record Rising (w : ℕ) (family : Family) (usim : Usim) (batch : Octets) (n 
   pub rising : (j k : ℕ) → j < k → k < n → seq j < seq k
   pub near : (k : ℕ) → k < n → seq k ≤ seqMs usim + D
   pub within : (k : ℕ) → k < n → seq k ≤ limit w
-  pub vectors : (k : ℕ) → k < n → vectorAt batch k ≡ makeVector (family .under (usim .keys)) (sqnOctets w (seq k) (ind k)) amf (rand k)
+  pub vectors : (k : ℕ) → k < n
+      → vectorAt batch k ≡ makeVector (family .under (usim .keys)) (sqnOctets w (seq k) (ind k)) amf (rand k)
 
--- what holds of a step: it is taken, and SEQ_MS is the number of the last vector counted
-pub record Counted (w : ℕ) (F : Functions) (batch : Octets) (n : ℕ) (seq : ℕ → ℕ) (s : Step) : Type 0 where
-  pub taken : Taken w F batch s
-  pub inside : (k : ℕ) → s .last ≡ some k → k < n
-  pub number : (k : ℕ) → s .last ≡ some k → seqMs (s .answer .usim) ≡ seq k
+-- what holds of a call: if it is of the batch it is accepted, and SEQ_MS is the number of the last vector counted
+pub record Counted (w : ℕ) (F : Functions) (batch : Octets) (n : ℕ) (seq : ℕ → ℕ) (c : AnsweredCall) : Type 0 where
+  pub accepts : FromBatch w F batch c
+  pub inside : (k : ℕ) → c .last ≡ some k → k < n
+  pub number : (k : ℕ) → c .last ≡ some k → seqMs (c .answer .usim) ≡ seq k
 
 -- ---- which place a call is counted at
 
@@ -46,7 +49,8 @@ some-inj e = cc
 not-some : {k : ℕ} → none ≡ some k → ⊥
 not-some e = let z : _≡_ {A = ℕ} 0 1 = cc in omega arith
 
-found : (batch : Octets) (call : Call) (k left j : ℕ) → placeFrom batch call k left ≡ some j → (k ≤ j) × (j < k + left) × (carries batch call j ≡ true)
+found : (batch : Octets) (call : Call) (k left j : ℕ) → placeFrom batch call k left ≡ some j
+    → (k ≤ j) × (j < k + left) × (carries batch call j ≡ true)
 unfolding placeFrom
 found batch call k zero j e = absurd (not-some e)
 found batch call k (suc left) j e = go (carries batch call k) refl e (found batch call (suc k) left j)
@@ -57,11 +61,15 @@ found batch call k (suc left) j e = go (carries batch call k) refl e (found batc
     go true h q ih = let here : k ≡ j = some-inj q in (omega arith, omega arith, ap (carries batch call) (sym here) ∙ h)
     go false h q ih = (omega (arith, ih q), omega (arith, ih q), ih q .2)
 
-carried : (batch : Octets) (call : Call) (k : ℕ) → carries batch call k ≡ true → (call .rand ≡ vectorAt batch k .rand) × (call .autn ≡ vectorAt batch k .autn)
+carried : (batch : Octets) (call : Call) (k : ℕ) → carries batch call k ≡ true
+    → (call .rand ≡ vectorAt batch k .rand) × (call .autn ≡ vectorAt batch k .autn)
 unfolding carries
 carried batch call k e =
-    let outer = and-eq-true-iff (sized (call .rand) (call .autn) && equal (call .rand) (vectorAt batch k .rand)) (equal (call .autn) (vectorAt batch k .autn)) .0 e in
-    let inner = and-eq-true-iff (sized (call .rand) (call .autn)) (equal (call .rand) (vectorAt batch k .rand)) .0 (outer .0) in
+    let is-sized = sized (call .rand) (call .autn) in
+    let same-rand = equal (call .rand) (vectorAt batch k .rand) in
+    let same-autn = equal (call .autn) (vectorAt batch k .autn) in
+    let outer = and-eq-true-iff (is-sized && same-rand) same-autn .0 e in
+    let inner = and-eq-true-iff is-sized same-rand .0 (outer .0) in
     (equal-true _ _ (inner .1), equal-true _ _ (outer .1))
 
 -- ---- the walk
@@ -115,13 +123,15 @@ module _ (w : ℕ) (family : Family) (usim : Usim) (L : Lengths (family .under (
     valid = rw (B .known) (at .within)
 
     the-answer : challenge w family (withPlaces usim l) (call .rand) (call .autn)
-        ≡ acceptedAnswer w (B .width) family (withPlaces usim l) L valid (seq k) (ind k) (B .within k inside) (B .index k inside) amf (rand k) (B .amf-size) (B .rand-size k inside)
+        ≡ acceptedAnswer w (B .width) family (withPlaces usim l) L valid (seq k) (ind k)
+        (B .within k inside) (B .index k inside) amf (rand k) (B .amf-size) (B .rand-size k inside)
     unfolding makeVector
     the-answer =
         let c = carried batch call k (place .2) in
         let v = B .vectors k inside in
         rw (c .0 ∙ ap (λ (x : Vector). x .rand) v, c .1 ∙ ap (λ (x : Vector). x .autn) v)
-        (made-accepted w (B .width) family (withPlaces usim l) L valid (seq k) (ind k) (B .within k inside) (B .index k inside) amf (rand k) (B .amf-size) (B .rand-size k inside) is-fresh)
+        (made-accepted w (B .width) family (withPlaces usim l) L valid (seq k) (ind k)
+        (B .within k inside) (B .index k inside) amf (rand k) (B .amf-size) (B .rand-size k inside) is-fresh)
 
     next : Between (set l (ind k) (seq k)) (some k)
     next =
@@ -136,10 +146,16 @@ module _ (w : ℕ) (family : Family) (usim : Usim) (L : Lengths (family .under (
   -- the number that the vector at k carries
   vector-number : (k : ℕ) → k < n → vectorSeq w F (vectorAt batch k) ≡ seq k
   unfolding makeVector
-  vector-number k h = rw (B .vectors k h) (autn-seq w (B .width) F L (seq k) (ind k) (B .within k h) (B .index k h) amf (rand k) (B .amf-size) (B .rand-size k h))
+  vector-number k h =
+      rw (B .vectors k h)
+      (autn-seq w (B .width) F L (seq k) (ind k) (B .within k h) (B .index k h) amf (rand k) (B .amf-size) (B .rand-size k h))
 
-  abbrev walk : Usim → Option ℕ → List Call → List Step
-  walk u last calls = steps w family batch n u last calls
+  abbrev walk : Usim → Option ℕ → List Call → List AnsweredCall
+  walk u last calls = answersTo w family batch n u last calls
+
+  -- the record after a call
+  abbrev then : List ℕ → Call → Usim
+  then l call = challenge w family (withPlaces usim l) (call .rand) (call .autn) .usim
 
   abbrev Goal : List Call → Usim → Option ℕ → Type 0
   Goal calls u last = Each OtherNotAccepted (walk u last calls) → Each (Counted w F batch n seq) (walk u last calls)
@@ -150,16 +166,18 @@ module _ (w : ℕ) (family : Family) (usim : Usim) (L : Lengths (family .under (
   one : (call : Call) (rest : List Call) (l : List ℕ) (last : Option ℕ) → Between l last
       → (p : Option ℕ) → placeOf batch n last call ≡ p
       → ((l′ : List ℕ) (last′ : Option ℕ) → Between l′ last′ → Goal rest (withPlaces usim l′) last′)
-      → OtherNotAccepted (step w family batch n (withPlaces usim l) last call)
-      → Counted w F batch n seq (step w family batch n (withPlaces usim l) last call)
-      × Goal rest (challenge w family (withPlaces usim l) (call .rand) (call .autn) .usim) (latest (placeOf batch n last call) last)
+      → OtherNotAccepted (answerTo w family batch n (withPlaces usim l) last call)
+      → Counted w F batch n seq (answerTo w family batch n (withPlaces usim l) last call)
+      × Goal rest (then l call) (latest (placeOf batch n last call) last)
   unfolding makeVector
   one call rest l last at none e ih other =
-      let same : challenge w family (withPlaces usim l) (call .rand) (call .autn) .usim ≡ withPlaces usim l = not-accepted-unchanged w family (withPlaces usim l) (call .rand) (call .autn) (other e) in
+      let same : then l call ≡ withPlaces usim l =
+      not-accepted-unchanged w family (withPlaces usim l) (call .rand) (call .autn) (other e) in
       let now : latest (placeOf batch n last call) last ≡ last = ap (λ (o : Option ℕ). latest o last) e in
-      let number : (k : ℕ) → latest (placeOf batch n last call) last ≡ some k → (k < n) × (highest l ≡ seq k) = λ k q. here l last at k (sym now ∙ q) in (
+      let number : (k : ℕ) → latest (placeOf batch n last call) last ≡ some k → (k < n) × (highest l ≡ seq k) =
+      λ k q. here l last at k (sym now ∙ q) in (
         record {
-          taken = record {
+          accepts = record {
             verdict = λ k q. absurd (not-some (sym e ∙ q));
             res = λ k q. absurd (not-some (sym e ∙ q));
             ck = λ k q. absurd (not-some (sym e ∙ q));
@@ -174,32 +192,37 @@ module _ (w : ℕ) (family : Family) (usim : Usim) (L : Lengths (family .under (
   one call rest l last at (some k) e ih other =
       let a = the-answer call l last at k e in
       let v = B .vectors k (inside call l last at k e) in
-      let same : challenge w family (withPlaces usim l) (call .rand) (call .autn) .usim ≡ withPlaces usim (set l (ind k) (seq k)) = ap (λ (x : UsimAnswer). x .usim) a in
+      let l′ = set l (ind k) (seq k) in
+      let same : then l call ≡ withPlaces usim l′ = ap (λ (x : UsimAnswer). x .usim) a in
       let now : latest (placeOf batch n last call) last ≡ some k = ap (λ (o : Option ℕ). latest o last) e in
-      let number : (j : ℕ) → latest (placeOf batch n last call) last ≡ some j → (j < n) × (highest (set l (ind k) (seq k)) ≡ seq j)
-      = λ j q. here (set l (ind k) (seq k)) (some k) (next call l last at k e) j (sym now ∙ q) in
-      let moved : (j : ℕ) → placeOf batch n last call ≡ some j → vectorAt batch k ≡ vectorAt batch j = λ j q. ap (vectorAt batch) (some-inj (sym e ∙ q)) in (
+      let number : (j : ℕ) → latest (placeOf batch n last call) last ≡ some j → (j < n) × (highest l′ ≡ seq j) =
+      λ j q. here l′ (some k) (next call l last at k e) j (sym now ∙ q) in
+      -- the vector that was made is the vector at the place counted
+      let made : (j : ℕ) → placeOf batch n last call ≡ some j
+      → makeVector F (sqnOctets w (seq k) (ind k)) amf (rand k) ≡ vectorAt batch j =
+      λ j q. sym v ∙ ap (vectorAt batch) (some-inj (sym e ∙ q)) in (
         record {
-          taken = record {
+          accepts = record {
             verdict = λ j q. ap (λ (x : UsimAnswer). x .verdict) a;
-            res = λ j q. ap (λ (x : UsimAnswer). x .res) a ∙ sym (ap (λ (x : Vector). x .xres) v) ∙ ap (λ (x : Vector). x .xres) (moved j q);
-            ck = λ j q. ap (λ (x : UsimAnswer). x .ck) a ∙ sym (ap (λ (x : Vector). x .ck) v) ∙ ap (λ (x : Vector). x .ck) (moved j q);
-            ik = λ j q. ap (λ (x : UsimAnswer). x .ik) a ∙ sym (ap (λ (x : Vector). x .ik) v) ∙ ap (λ (x : Vector). x .ik) (moved j q);
+            res = λ j q. ap (λ (x : UsimAnswer). x .res) a ∙ ap (λ (x : Vector). x .xres) (made j q);
+            ck = λ j q. ap (λ (x : UsimAnswer). x .ck) a ∙ ap (λ (x : Vector). x .ck) (made j q);
+            ik = λ j q. ap (λ (x : UsimAnswer). x .ik) a ∙ ap (λ (x : Vector). x .ik) (made j q);
             seq = λ j q. ap seqMs same ∙ number j q .1 ∙ sym (vector-number j (number j q .0));
           };
           inside = λ j q. number j q .0;
           number = λ j q. ap seqMs same ∙ number j q .1;
         },
-        subst₂ (Goal rest) (sym same) (sym now) (ih (set l (ind k) (seq k)) (some k) (next call l last at k e)),
+        subst₂ (Goal rest) (sym same) (sym now) (ih l′ (some k) (next call l last at k e)),
       )
 
   from : (calls : List Call) (l : List ℕ) (last : Option ℕ) → Between l last → Goal calls (withPlaces usim l) last
-  unfolding steps
+  unfolding answersTo
   from [] l last at others = tt
   from (call ∷ rest) l last at others =
       let both = one call rest l last at (placeOf batch n last call) refl (λ l′ last′ at′. from rest l′ last′ at′) (others .0) in
       (both .0, both .1 (others .1))
 
   -- from the USIM's record, for every list of calls
-  pub all-calls : length (usim .places) ≡ indices w → allWithin (limit w) (usim .places) ≡ true → (calls : List Call) → Goal calls usim none
+  pub all-calls : length (usim .places) ≡ indices w → allWithin (limit w) (usim .places) ≡ true
+      → (calls : List Call) → Goal calls usim none
   all-calls size within calls = from calls (usim .places) none (record { size = size; within = within; number = refl; low = omega arith })

@@ -5,7 +5,7 @@ use native.Mathlib.Nat.{mul-comm}
 use native.Mathlib.Omega.{arith}
 use lib.Arith.{digits-lt}
 use lib.Pow.{pow-add, pow-pos, high, low, split, shr-lt, le-ones}
-use Rattle.aka.specs.Sequence.{indices, limit, sqnOf, seqOf, indOf}
+use Rattle.aka.specs.Sequence.{sqnBits, indices, seqBits, limit, sqnOf, seqOf, indOf}
 
 module _ (w : ℕ) where
   pub seq-sqn : (seq ind : ℕ) → ind < indices w → seqOf w (sqnOf w seq ind) ≡ seq
@@ -17,18 +17,18 @@ module _ (w : ℕ) where
   pub sqn-seq-ind : (sqn : ℕ) → sqnOf w (seqOf w sqn) (indOf w sqn) ≡ sqn
   sqn-seq-ind sqn = rw (mul-comm (2 ^ w) (sqn / 2 ^ w)) (split sqn w)
 
-  module _ (fits : w ≤ 48) where
-    bits : 48 - w + w ≡ 48
+  module _ (fits : w ≤ sqnBits) where
+    bits : seqBits w + w ≡ sqnBits
     bits = omega arith
 
     -- a SEQ within its limit and an index make a number of 48 bits
     pub sqn-lt : (seq ind : ℕ) → seq ≤ limit w → ind < indices w → sqnOf w seq ind < 256 ^ 6
     sqn-lt seq ind hs hi =
-        let whole : 2 ^ (48 - w) * 2 ^ w ≡ 256 ^ 6 = sym (pow-add 2 (48 - w) w) ∙ ap (λ (e : ℕ). 2 ^ e) bits in
-        let pos : 0 < 2 ^ (48 - w) = pow-pos (48 - w) in
-        let below : seq < 2 ^ (48 - w) = omega arith in
+        let whole : 2 ^ seqBits w * 2 ^ w ≡ 256 ^ 6 = sym (pow-add 2 (seqBits w) w) ∙ ap (λ (e : ℕ). 2 ^ e) bits in
+        let pos : 0 < 2 ^ seqBits w = pow-pos (seqBits w) in
+        let below : seq < 2 ^ seqBits w = omega arith in
         rw (mul-comm (2 ^ w) seq) (rw whole at (digits-lt below hi))
 
     -- a number of 48 bits has a SEQ within its limit
     pub seq-le : (sqn : ℕ) → sqn < 256 ^ 6 → seqOf w sqn ≤ limit w
-    seq-le sqn h = le-ones (48 - w) (shr-lt (48 - w) w (rw bits h))
+    seq-le sqn h = le-ones (seqBits w) (shr-lt (seqBits w) w (rw bits h))

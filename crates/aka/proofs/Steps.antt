@@ -17,7 +17,8 @@ module _ (rands : Octets) (n i : ℕ) where
   unfolding pairWith
   with-hit j h e = let next : n - j ≡ suc (n - (j + 1)) = omega arith in rw (next, e)
 
-  pub with-miss : (j : ℕ) → j < n → equal (randAt rands i) (randAt rands j) ≡ false → pairWith rands i j (n - j) ≡ pairWith rands i (j + 1) (n - (j + 1))
+  pub with-miss : (j : ℕ) → j < n → equal (randAt rands i) (randAt rands j) ≡ false
+      → pairWith rands i j (n - j) ≡ pairWith rands i (j + 1) (n - (j + 1))
   unfolding pairWith
   with-miss j h e = let next : n - j ≡ suc (n - (j + 1)) = omega arith in rw (next, e)
 
@@ -29,7 +30,8 @@ module _ (rands : Octets) (n i : ℕ) where
   unfolding pairFrom
   from-hit j h e = let next : n - i ≡ suc (n - (i + 1)) = omega arith in rw (next, e)
 
-  pub from-miss : i < n → pairWith rands i (i + 1) (n - (i + 1)) ≡ unequal → pairFrom rands i (n - i) ≡ pairFrom rands (i + 1) (n - (i + 1))
+  pub from-miss : i < n → pairWith rands i (i + 1) (n - (i + 1)) ≡ unequal
+      → pairFrom rands i (n - i) ≡ pairFrom rands (i + 1) (n - (i + 1))
   unfolding pairFrom
   from-miss h e = let next : n - i ≡ suc (n - (i + 1)) = omega arith in rw (next, e)
 
@@ -44,6 +46,8 @@ module _ (w : ℕ) (family : Family) (auc : Auc) (start : ℕ) (rands : Octets) 
   unfolding batchFrom joined
   batch-none = refl
 
-  pub batch-next : (k : ℕ) → batchFrom w family auc start rands (k + 1) ≡ batchFrom w family auc start rands k ++ writeVector (vectorFrom w family auc start rands k)
+  pub batch-next : (k : ℕ)
+      → batchFrom w family auc start rands (k + 1)
+      ≡ batchFrom w family auc start rands k ++ writeVector (vectorFrom w family auc start rands k)
   unfolding batchFrom joined
   batch-next k = rw (add-one k)

@@ -10,11 +10,14 @@ use Rattle.octets.specs.Octets.{Octets, xor, equal, encode}
 use Rattle.octets.proofs.Xor.{length-xor, xor-twice}
 use Rattle.aka.specs.Layout.{Autn, sqnSize, macSize, writeAutn, randAt}
 use Rattle.aka.specs.Functions.{Functions, Family, Lengths, Lawful, dummyAmf}
-use Rattle.aka.specs.Sequence.{limit, sqnOf, width}
-use Rattle.aka.specs.Usim.{Usim, UsimAnswer, accepted, macFailure, syncFailure, highest, lowestIndex, allWithin, validUsim, fresh, macRight, makeAuts, sqnMs}
-use Rattle.aka.specs.Auc.{AucAnswer, given, kept, reset, refused, validAuc, inRange, startOf, seqMsIn, makeVector, seqAt, after, batchFrom}
+use Rattle.aka.specs.Sequence.{indices, limit, sqnOf, width}
+use Rattle.aka.specs.Usim.{Usim, UsimAnswer, accepted, macFailure, syncFailure, highest, lowestIndex, allWithin, validUsim, fresh}
+use Rattle.aka.specs.Usim.{macRight, makeAuts, sqnMs}
+use Rattle.aka.specs.Auc.{Auc, AucAnswer, given, kept, reset, refused, validAuc, inRange, startOf, seqMsIn, makeVector, seqAt}
+use Rattle.aka.specs.Auc.{after, batchFrom}
 use Rattle.aka.specs.Demand3.{vectorSeq}
-use Rattle.aka.specs.Table.{Sample, Proper, Table, WorkedTable, new, used, usimWith, sqnWith, asked, askedWith, aucWith, ordered, resynced, firstSeq}
+use Rattle.aka.specs.Table.{Sample, Proper, Table, WorkedTable, five, new, used, usimWith, sqnWith, asked, askedWith, aucWith}
+use Rattle.aka.specs.Table.{ordered, resynced, firstSeq}
 use Rattle.octets.proofs.Parts.{unequal-false}
 use Rattle.aka.proofs.Layouts.{AutnSized, length-autn, read-autn}
 use Rattle.aka.proofs.Places.{place-le, within-iff}
@@ -41,16 +44,19 @@ module _ (family : Family) (lawful : Lawful family) (x : Sample) (p : Proper fam
   unfolding validUsim allWithin
   used-valid = rw (p .known)
 
-  verdict : (places : List ℕ) → validUsim width family (usimWith family x places) ≡ true → (seq ind : ℕ) → seq ≤ limit width → ind < 32
+  verdict : (places : List ℕ) → validUsim width family (usimWith family x places) ≡ true
+      → (seq ind : ℕ) → seq ≤ limit width → ind < indices width
       → asked family x places seq ind .verdict ≡ cond (not (fresh places seq ind)) syncFailure accepted
-  verdict places valid seq ind hq hi = made-verdict width (omega arith) family (usimWith family x places) L valid seq ind hq hi (x .amf) (x .rand) (p .amf) (p .rand)
+  verdict places valid seq ind hq hi =
+      made-verdict width (omega arith) family (usimWith family x places) L valid seq ind hq hi (x .amf) (x .rand) (p .amf) (p .rand)
 
   -- a second place that holds 10 leaves index 3 the lowest
   row7-kept : sqnMs width (asked family x used 10 4 .usim) ≡ sqnOf width 10 3
   unfolding fresh highest lowestIndex
   row7-kept =
       ap (λ (a : UsimAnswer). sqnMs width (a .usim))
-      (made-accepted width (omega arith) family (usimWith family x used) L used-valid 10 4 (omega arith) (omega arith) (x .amf) (x .rand) (p .amf) (p .rand) refl)
+      (made-accepted width (omega arith) family (usimWith family x used) L used-valid 10 4 (omega arith) (omega arith)
+      (x .amf) (x .rand) (p .amf) (p .rand) refl)
 
   module _ (mac : Octets) (hm : length mac ≡ macSize) (ne : mac ≡ F .f1 (sqnWith family x 10 3) (x .rand) (x .amf) → ⊥) where
     abbrev sqn : Octets
@@ -63,7 +69,11 @@ module _ (family : Family) (lawful : Lawful family) (x : Sample) (p : Proper fam
     fields = record { concealed = xor sqn (F .f5 (x .rand)); amf = x .amf; mac = mac }
 
     fields-sized : AutnSized fields
-    fields-sized = record { concealed = length-xor sqn (F .f5 (x .rand)) under-ak ∙ length-sqn (sqnOf width 10 3); amf = p .amf; mac = hm }
+    fields-sized = record {
+      concealed = length-xor sqn (F .f5 (x .rand)) under-ak ∙ length-sqn (sqnOf width 10 3);
+      amf = p .amf;
+      mac = hm;
+    }
 
     wrong : macRight F (x .rand) (writeAutn fields) ≡ false
     unfolding macRight
@@ -73,20 +83,29 @@ module _ (family : Family) (lawful : Lawful family) (x : Sample) (p : Proper fam
         ∙ unequal-false mac (F .f1 sqn (x .rand) (x .amf)) ne
 
     mac-row : askedWith family x mac used 10 3 .verdict ≡ macFailure
-    mac-row = mac-wrong width family (usimWith family x used) (x .rand) (writeAutn fields) used-valid (true-sized (x .rand) (writeAutn fields) (p .rand) (length-autn fields fields-sized)) wrong
+    mac-row =
+        mac-wrong width family (usimWith family x used) (x .rand) (writeAutn fields) used-valid
+        (true-sized (x .rand) (writeAutn fields) (p .rand) (length-autn fields fields-sized)) wrong
 
   -- ---- the AuC
 
   auc-valid : (he : ℕ) → he ≤ limit width → validAuc width family (aucWith family x he) ≡ true
   unfolding validAuc
-  auc-valid he h = rw (p .known, le-leb he (limit width) h, lt-ltb (x .next) 32 (p .next))
+  auc-valid he h = rw (p .known, le-leb he (limit width) h, lt-ltb (x .next) (indices width) (p .next))
 
-  order-row : (he : ℕ) → he + 5 ≤ limit width → ordered family x he .outcome ≡ given
-  order-row he h = ap (λ (a : AucAnswer). a .outcome)
-      (order-given width family (aucWith family x he) 5 (x .rands) (x .buffer) (auc-valid he (omega arith)) (omega arith) (p .rands) (p .buffer) (p .unequal-rands) h)
+  abbrev auc : (he : ℕ) → Auc
+  auc he = aucWith family x he
 
-  past-row : (he : ℕ) → he ≤ limit width → limit width < he + 5 → ordered family x he .outcome ≡ refused 6
-  past-row he h past = order-past width family (aucWith family x he) 5 (x .rands) (x .buffer) (auc-valid he h) (omega arith) (p .rands) (p .buffer) (p .unequal-rands) past
+  order-row : (he : ℕ) → he + five ≤ limit width → ordered family x he .outcome ≡ given
+  order-row he h =
+      ap (λ (a : AucAnswer). a .outcome)
+      (order-given width family (auc he) five (x .rands) (x .buffer) (auc-valid he (omega arith)) (omega arith)
+      (p .rands) (p .buffer) (p .unequal-rands) h)
+
+  past-row : (he : ℕ) → he ≤ limit width → limit width < he + five → ordered family x he .outcome ≡ refused 6
+  past-row he h past =
+      order-past width family (auc he) five (x .rands) (x .buffer) (auc-valid he h) (omega arith)
+      (p .rands) (p .buffer) (p .unequal-rands) past
 
   abbrev usim100 : Usim
   usim100 = usimWith family x (x .places100)
@@ -101,26 +120,33 @@ module _ (family : Family) (lawful : Lawful family) (x : Sample) (p : Proper fam
   has : seqMsIn width F (x .rand) auts ≡ 100
   has = auts-has width (omega arith) family usim100 L valid100 (p .places100-size) (x .rand) (p .rand) ∙ p .places100-highest
 
-  module _ (he : ℕ) (h : he ≤ limit width) (room : startOf he 100 5 + 5 ≤ limit width) where
+  module _ (he : ℕ) (h : he ≤ limit width) (room : startOf he 100 five + five ≤ limit width) where
+    -- SEQ_HE kept or reset
+    abbrev st : ℕ
+    st = startOf he 100 five
+
     resync-row : resynced family x he ≡ record {
-      outcome = cond (inRange he 100 5) kept reset;
-      n = 5;
-      auc = after width (aucWith family x he) (startOf he 100 5) 5;
-      batch = batchFrom width family (aucWith family x he) (startOf he 100 5) (x .rands) 5;
+      outcome = cond (inRange he 100 five) kept reset;
+      n = five;
+      auc = after width (auc he) st five;
+      batch = batchFrom width family (auc he) st (x .rands) five;
     }
     resync-row =
-        resync-sent width family (aucWith family x he) 5 (x .rands) (x .buffer) (auc-valid he h) (omega arith) (p .rands) (p .buffer) (p .unequal-rands) (x .rand) auts (p .rand)
+        resync-sent width family (auc he) five (x .rands) (x .buffer) (auc-valid he h) (omega arith)
+        (p .rands) (p .buffer) (p .unequal-rands) (x .rand) auts (p .rand)
         (auts-is-long width (omega arith) family usim100 L valid100 (p .places100-size) (x .rand) (p .rand))
-        (rw (has, auts-is-right width (omega arith) family usim100 L valid100 (p .places100-size) (x .rand) (p .rand)) (or-true (inRange he 100 5)))
+        (rw (has, auts-is-right width (omega arith) family usim100 L valid100 (p .places100-size) (x .rand) (p .rand))
+        (or-true (inRange he 100 five)))
         (rw has room)
         ∙ rw has
 
-    first-row : startOf he 100 5 ≡ 100 → firstSeq family x (resynced family x he) ≡ 101
+    first-row : st ≡ 100 → firstSeq family x (resynced family x he) ≡ 101
     unfolding makeVector
     first-row e =
         ap (λ (a : AucAnswer). firstSeq family x a) resync-row
-        ∙ ap (vectorSeq width F) (batch-vector width family (aucWith family x he) L (p .amf) (startOf he 100 5) (x .rands) 5 (p .rands) 0 (omega arith))
-        ∙ autn-seq width (omega arith) F L (seqAt (startOf he 100 5) 0) (x .next) (omega (arith, e)) (p .next) (x .amf) (randAt (x .rands) 0) (p .amf) (length-rand (x .rands) 5 (p .rands) 0 (omega arith))
+        ∙ ap (vectorSeq width F) (batch-vector width family (auc he) L (p .amf) st (x .rands) five (p .rands) 0 (omega arith))
+        ∙ autn-seq width (omega arith) F L (seqAt st 0) (x .next) (omega (arith, e)) (p .next)
+        (x .amf) (randAt (x .rands) 0) (p .amf) (length-rand (x .rands) five (p .rands) 0 (omega arith))
         ∙ omega (arith, e)
 
   table : Table family x

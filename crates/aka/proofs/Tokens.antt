@@ -21,12 +21,13 @@ abbrev pub sqnOctets : (w seq ind : ℕ) → Octets
 sqnOctets w seq ind = encode sqnSize (sqnOf w seq ind)
 
 pub length-sqn : (sqn : ℕ) → length (encode sqnSize sqn) ≡ sqnSize
-length-sqn sqn = length-digits 256 6 sqn
+length-sqn sqn = length-digits 256 sqnSize sqn
 
 pub decode-sqn : (w seq ind : ℕ) → w ≤ 48 → seq ≤ limit w → ind < indices w → decode (sqnOctets w seq ind) ≡ sqnOf w seq ind
-decode-sqn w seq ind hw hs hi = number-digits-fits 256 6 (sqnOf w seq ind) (omega arith) (sqn-lt w hw seq ind hs hi)
+decode-sqn w seq ind hw hs hi = number-digits-fits 256 sqnSize (sqnOf w seq ind) (omega arith) (sqn-lt w hw seq ind hs hi)
 
-module _ (F : Functions) (L : Lengths F) (sqn amf rand : Octets) (hs : length sqn ≡ sqnSize) (ha : length amf ≡ amfSize) (hr : length rand ≡ randSize) where
+module _ (F : Functions) (L : Lengths F) (sqn amf rand : Octets)
+    (hs : length sqn ≡ sqnSize) (ha : length amf ≡ amfSize) (hr : length rand ≡ randSize) where
   -- ---- AUTN
 
   abbrev autn : Octets
@@ -117,8 +118,9 @@ module _ (w : ℕ) (hw : w ≤ 48) (F : Functions) (L : Lengths F) (seq ind : �
   pub autn-ind : indIn w F rand (makeAutn F (sqnOctets w seq ind) amf rand) ≡ ind
   autn-ind = ap (indOf w) sqn-is ∙ ind-sqn w seq ind hi
 
-pub auts-seq : (w : ℕ) (F : Functions) → Lengths F → (sqn : ℕ) → sqn < 256 ^ 6 → (amf rand : Octets) → length amf ≡ amfSize → length rand ≡ randSize
+pub auts-seq : (w : ℕ) (F : Functions) → Lengths F → (sqn : ℕ) → sqn < 256 ^ sqnSize
+    → (amf rand : Octets) → length amf ≡ amfSize → length rand ≡ randSize
     → seqMsIn w F rand (makeAuts F (encode sqnSize sqn) amf rand) ≡ seqOf w sqn
 auts-seq w F L sqn fits amf rand ha hr =
     ap (λ (x : Octets). seqOf w (decode x)) (auts-sqn F L (encode sqnSize sqn) amf rand (length-sqn sqn) ha hr)
-    ∙ ap (seqOf w) (number-digits-fits 256 6 sqn (omega arith) fits)
+    ∙ ap (seqOf w) (number-digits-fits 256 sqnSize sqn (omega arith) fits)

@@ -14,7 +14,8 @@ use Rattle.aka.specs.Sequence.{sqnOf, width}
 use Rattle.aka.specs.Usim.{Usim, UsimAnswer, accepted, macFailure, syncFailure, refused, challenge, verdictOn, judgement, answerWith, validUsim, sized, macRight, fresh, highest, lowestIndex, allWithin, makeAuts}
 use Rattle.aka.specs.Auc.{unequal, kept, reset, validAuc, makeAutn, makeVector, batchFrom, pairWith, pairFrom, equalPair, lentFor, lentAll, unlessRefused, unlessPast, inRange, macSRight, resyncOutcome, resync}
 use Rattle.aka.specs.Auc as auc
-use Rattle.aka.specs.Demand3.{Setting, Call, Step, Each, OtherNotAccepted, Premise, Conclusion, carries, placeFrom, steps, stepsOf, failure, renewal}
+use Rattle.aka.specs.Demand3.{Setting, Call, AnsweredCall, Each, OtherNotAccepted, Premise, Conclusion, carries, placeFrom}
+use Rattle.aka.specs.Demand3.{answersTo, answered, failure, renewal}
 use Rattle.aka.specs.Table.{Sample, Proper, Table, new, used}
 use Rattle.aka.proofs.TestSet.{testSet, testSets, test-lawful}
 use Rattle.aka.proofs.Demand3.{demand3}
@@ -58,8 +59,8 @@ lost seqhe = record {
 abbrev callOf : (k : ℕ) → Call
 callOf k = record { rand = vectorAt (renewal width testSets (lost 1) .batch) k .rand; autn = vectorAt (renewal width testSets (lost 1) .batch) k .autn }
 
-abbrev walk : List Step
-walk = stepsOf width testSets (lost 1) (callOf 0 ∷ callOf 0 ∷ record { rand = rand; autn = [] } ∷ callOf 1 ∷ [])
+abbrev walk : List AnsweredCall
+walk = answered width testSets (lost 1) (callOf 0 ∷ callOf 0 ∷ record { rand = rand; autn = [] } ∷ callOf 1 ∷ [])
 
 -- ---- a sample of the worked table
 
@@ -121,7 +122,7 @@ not-refused : refused 3 ≡ accepted → ⊥
 not-refused e = let z : _≡_ {A = ℕ} 0 1 = cc in omega arith
 
 pub computed : Computed
-unfolding testSets testSet challenge verdictOn judgement answerWith validUsim sized macRight fresh highest lowestIndex allWithin makeAuts makeAutn writeAutn readAutn writeAuts readAuts xor equal digits spelt pairFrom pairWith validAuc auc.answerWith lentFor lentAll unlessRefused unlessPast inRange macSRight resyncOutcome resync batchFrom makeVector writeVector readVector joined turnLeft steps placeFrom carries
+unfolding testSets testSet challenge verdictOn judgement answerWith validUsim sized macRight fresh highest lowestIndex allWithin makeAuts makeAutn writeAutn readAutn writeAuts readAuts xor equal digits spelt pairFrom pairWith validAuc auc.answerWith lentFor lentAll unlessRefused unlessPast inRange macSRight resyncOutcome resync batchFrom makeVector writeVector readVector joined turnLeft answersTo placeFrom carries
 computed = record {
   autn = refl;
   res = refl;

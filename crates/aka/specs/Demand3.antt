@@ -10,7 +10,7 @@ use lib.ListN.{length}
 use Rattle.octets.specs.Octets.{Octets, equal}
 use Rattle.aka.specs.Layout.{Vector, randSize, amfSize, vectorSize, mostVectors, vectorAt}
 use Rattle.aka.specs.Functions.{Functions, Family, Shaped, Lawful}
-use Rattle.aka.specs.Sequence.{indices, limit}
+use Rattle.aka.specs.Sequence.{sqnBits, indices, limit}
 use Rattle.aka.specs.Usim.{Usim, UsimAnswer, accepted, syncFailure, challenge, validUsim, sized, seqMs, seqIn}
 use Rattle.aka.specs.Auc.{Auc, AucAnswer, unequal, kept, reset, validAuc, resync, countOf, equalPair}
 
@@ -30,7 +30,7 @@ pub record Call : Type 0 where
   pub autn : Octets
 
 -- a call that has been answered
-pub record Step : Type 0 where
+pub record AnsweredCall : Type 0 where
   -- the place of the vector with which it is counted as of the batch; none for every other call
   pub place : Option ℕ
   -- the last place counted, up to this call and with it
@@ -40,7 +40,7 @@ pub record Step : Type 0 where
 -- P is true of each element of a list
 abbrev pub Each : {A : Type 0} → (A → Type 0) → List A → Type 0
 Each P [] = Unit {0}
-Each P (s ∷ rest) = P s × Each P rest
+Each P (x ∷ rest) = P x × Each P rest
 
 -- ---- which calls are of the batch
 
@@ -61,7 +61,9 @@ abbrev pub later : Option ℕ → ℕ
 later none = 0
 later (some k) = suc k
 
--- 'a vector at a later place than any so counted before it'
+-- 'a vector at a later place than any so counted before it'. Take a batch of three, and calls with its vectors at places 1, 0 and 2, in
+-- this order. Nothing was counted before the first, so it is counted at place 1. The second carries the vector at place 0, which is not
+-- later than 1: it is not of the batch, and so one that the card does not accept. The third is counted at place 2.
 abbrev pub placeOf : (batch : Octets) (n : ℕ) (last : Option ℕ) → Call → Option ℕ
 placeOf batch n last call = placeFrom batch call (later last) (n - later last)
 
@@ -76,37 +78,37 @@ vectorSeq w F v = seqIn w F (v .rand) (v .autn)
 -- ---- the list of calls
 
 module _ (w : ℕ) (family : Family) (batch : Octets) (n : ℕ) where
-  abbrev pub step : Usim → (last : Option ℕ) → Call → Step
-  step usim last call = record {
+  abbrev pub answerTo : Usim → (last : Option ℕ) → Call → AnsweredCall
+  answerTo usim last call = record {
     place = placeOf batch n last call;
     last = latest (placeOf batch n last call) last;
     answer = challenge w family usim (call .rand) (call .autn);
   }
 
   -- each call gets the record that the one before returned
-  unfoldable pub steps : Usim → (last : Option ℕ) → List Call → List Step
-  steps usim last [] = []
-  steps usim last (call ∷ rest) =
-      step usim last call ∷ steps (step usim last call .answer .usim) (step usim last call .last) rest
+  unfoldable pub answersTo : Usim → (last : Option ℕ) → List Call → List AnsweredCall
+  answersTo usim last [] = []
+  answersTo usim last (call ∷ rest) =
+      answerTo usim last call ∷ answersTo (answerTo usim last call .answer .usim) (answerTo usim last call .last) rest
 
 -- 'Every other call is one that the card does not accept'
-abbrev pub OtherNotAccepted : Step → Type 0
-OtherNotAccepted s = s .place ≡ none → s .answer .verdict ≡ accepted → ⊥
+abbrev pub OtherNotAccepted : AnsweredCall → Type 0
+OtherNotAccepted c = c .place ≡ none → c .answer .verdict ≡ accepted → ⊥
 
--- what holds of each step, however the batch was numbered; `F` are the functions of the subscriber
-pub record Taken (w : ℕ) (F : Functions) (batch : Octets) (s : Step) : Type 0 where
+-- what holds of each call, however the batch was numbered; `F` are the functions of the subscriber
+pub record FromBatch (w : ℕ) (F : Functions) (batch : Octets) (c : AnsweredCall) : Type 0 where
   -- a call of the batch is accepted, with RES, CK and IK equal to its vector's XRES, CK and IK
-  pub verdict : (k : ℕ) → s .place ≡ some k → s .answer .verdict ≡ accepted
-  pub res : (k : ℕ) → s .place ≡ some k → s .answer .res ≡ vectorAt batch k .xres
-  pub ck : (k : ℕ) → s .place ≡ some k → s .answer .ck ≡ vectorAt batch k .ck
-  pub ik : (k : ℕ) → s .place ≡ some k → s .answer .ik ≡ vectorAt batch k .ik
+  pub verdict : (k : ℕ) → c .place ≡ some k → c .answer .verdict ≡ accepted
+  pub res : (k : ℕ) → c .place ≡ some k → c .answer .res ≡ vectorAt batch k .xres
+  pub ck : (k : ℕ) → c .place ≡ some k → c .answer .ck ≡ vectorAt batch k .ck
+  pub ik : (k : ℕ) → c .place ≡ some k → c .answer .ik ≡ vectorAt batch k .ik
   -- from the call with the vector at place k until the next call of the batch, SEQ_MS is that vector's SEQ
-  pub seq : (k : ℕ) → s .last ≡ some k → seqMs (s .answer .usim) ≡ vectorSeq w F (vectorAt batch k)
+  pub seq : (k : ℕ) → c .last ≡ some k → seqMs (c .answer .usim) ≡ vectorSeq w F (vectorAt batch k)
 
--- and besides, of a batch that is counted up, the SEQ_HE that the resynchronisation returned is SEQ_MS + n - 1 - k
-pub record Holds (w : ℕ) (F : Functions) (batch : Octets) (n seqhe : ℕ) (s : Step) : Type 0 where
-  pub taken : Taken w F batch s
-  pub ahead : (k : ℕ) → s .last ≡ some k → seqhe ≡ seqMs (s .answer .usim) + n - 1 - k
+-- and besides, of a batch that is counted up, 'the SEQ_HE that the resynchronisation returned is SEQ_MS + n - 1 - k', said as a sum
+pub record Promised (w : ℕ) (F : Functions) (batch : Octets) (n seqhe : ℕ) (c : AnsweredCall) : Type 0 where
+  pub accepts : FromBatch w F batch c
+  pub ahead : (k : ℕ) → c .last ≡ some k → seqhe + k + 1 ≡ seqMs (c .answer .usim) + n
 
 -- ---- the statement
 
@@ -144,16 +146,16 @@ module _ (w : ℕ) (family : Family) (s : Setting) where
     pub failed : failure .verdict ≡ syncFailure
 
   -- the list starts from the record that the synchronisation failure left
-  abbrev pub stepsOf : List Call → List Step
-  stepsOf calls = steps w family (renewal .batch) n (failure .usim) none calls
+  abbrev pub answered : List Call → List AnsweredCall
+  answered calls = answersTo w family (renewal .batch) n (failure .usim) none calls
 
   pub record Conclusion : Type 0 where
     -- the AuC sends a batch
     pub sent : (renewal .outcome ≡ kept) ⊎ (renewal .outcome ≡ reset)
     -- 'For every such list'
-    pub all : (calls : List Call) → Each OtherNotAccepted (stepsOf calls)
-        → Each (Holds w (family .under (s .usim .keys)) (renewal .batch) n (renewal .auc .seqhe)) (stepsOf calls)
+    pub all : (calls : List Call) → Each OtherNotAccepted (answered calls)
+        → Each (Promised w (family .under (s .usim .keys)) (renewal .batch) n (renewal .auc .seqhe)) (answered calls)
 
 -- for every width of the index, every lawful family, and every setting that meets the premise
 abbrev pub Demand3 : Type 0
-Demand3 = (w : ℕ) → w ≤ 48 → (family : Family) → Lawful family → (s : Setting) → Premise w family s → Conclusion w family s
+Demand3 = (w : ℕ) → w ≤ sqnBits → (family : Family) → Lawful family → (s : Setting) → Premise w family s → Conclusion w family s

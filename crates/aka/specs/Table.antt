@@ -1,5 +1,6 @@
 -- The worked table of document 01 as one statement: eight challenges to a USIM ('What the card does'), four resynchronisations and
--- two orders ('What the centre does'). At the index width 5; for every lawful family, and whatever the keys, AMF and RANDs are. Assumes nothing.
+-- two orders ('What the centre does'). At document 01's width of the index; for every lawful family, and whatever the keys, AMF and RANDs are.
+-- Assumes nothing.
 use Prim.Native.Nat.{ℕ, _*_, _<_}
 use mathlib.Core.Bool.{true}
 use mathlib.Core.List.{List}
@@ -8,7 +9,7 @@ use lib.ListN.{length, replicate, set}
 use Rattle.octets.specs.Octets.{Octets, xor, encode}
 use Rattle.aka.specs.Layout.{randSize, amfSize, sqnSize, macSize, vectorSize, writeAutn, vectorAt}
 use Rattle.aka.specs.Functions.{Keys, Functions, Family, Shaped, Lawful, dummyAmf}
-use Rattle.aka.specs.Sequence.{sqnOf, width}
+use Rattle.aka.specs.Sequence.{indices, sqnOf, width}
 use Rattle.aka.specs.Usim.{Usim, UsimAnswer, accepted, macFailure, syncFailure, challenge, makeAuts, highest, sqnMs}
 use Rattle.aka.specs.Auc.{Auc, AucAnswer, unequal, given, kept, reset, refused, equalPair, makeAutn, order, resync}
 use Rattle.aka.specs.Demand3.{vectorSeq}
@@ -24,22 +25,26 @@ pub record Sample : Type 0 where
   pub rands : Octets
   pub buffer : Octets
 
--- and what it takes for granted: valid records, n = 5, nothing to refuse
+-- its batches have five vectors
+abbrev pub five : ℕ
+five = 5
+
+-- and what it takes for granted: valid records, nothing to refuse
 pub record Proper (family : Family) (x : Sample) : Type 0 where
   pub known : family .known (x .keys .set) ≡ true
   pub keys : Shaped (x .keys)
   pub amf : length (x .amf) ≡ amfSize
   pub rand : length (x .rand) ≡ randSize
-  pub places100-size : length (x .places100) ≡ 32
+  pub places100-size : length (x .places100) ≡ indices width
   pub places100-highest : highest (x .places100) ≡ 100
-  pub next : x .next < 32
-  pub rands : length (x .rands) ≡ randSize * 5
-  pub buffer : length (x .buffer) ≡ vectorSize * 5
-  pub unequal-rands : equalPair (x .rands) 5 ≡ unequal
+  pub next : x .next < indices width
+  pub rands : length (x .rands) ≡ randSize * five
+  pub buffer : length (x .buffer) ≡ vectorSize * five
+  pub unequal-rands : equalPair (x .rands) five ≡ unequal
 
 -- all 0
 abbrev pub new : List ℕ
-new = replicate 32 0
+new = replicate (indices width) 0
 
 -- place 3 is 10, rest 0
 abbrev pub used : List ℕ
@@ -70,12 +75,12 @@ module _ (family : Family) (x : Sample) where
 
   -- an order of five
   abbrev pub ordered : (seqhe : ℕ) → AucAnswer
-  ordered seqhe = order width family (aucWith seqhe) 5 (x .rands) (x .buffer)
+  ordered seqhe = order width family (aucWith seqhe) five (x .rands) (x .buffer)
 
   -- a resynchronisation with the AUTS of the USIM whose SEQ_MS is 100
   abbrev pub resynced : (seqhe : ℕ) → AucAnswer
   resynced seqhe =
-      resync width family (aucWith seqhe) 5 (x .rands) (x .buffer) (x .rand)
+      resync width family (aucWith seqhe) five (x .rands) (x .buffer) (x .rand)
       (makeAuts F (encode sqnSize (sqnMs width (usimWith (x .places100)))) dummyAmf (x .rand))
 
   abbrev pub firstSeq : AucAnswer → ℕ

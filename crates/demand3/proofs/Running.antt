@@ -16,28 +16,28 @@ use Rattle.aka.specs.Sequence.{width}
 use Rattle.usim_record.specs.declared.Usim.{Usim}
 use Rattle.usim_record.specs.Views as cardViews
 use Rattle.auc_record.specs.Views as centreViews
-use Rattle.demand3.specs.Running.{Setting, Ran, Call, Chain, callOf, steps, settingOf, Demand3}
+use Rattle.demand3.specs.Running.{Setting, Ran, Call, Chain, callOf, counted, settingOf, Demand3}
 
--- the steps of the code are the steps of the definitions
-same-steps : (batch : Octets) (n : ℕ) (u : Usim) (last : Option ℕ) (calls : List Call) → Chain u calls
-    → steps batch n last calls ≡ aka.steps width sets batch n (cardViews.usimOf u) last (map callOf calls)
-unfolding Chain steps aka.steps
-same-steps batch n u last [] c = refl
-same-steps batch n u last (call ∷ rest) c =
+-- the answers of the code are those of the definitions
+same-answers : (batch : Octets) (n : ℕ) (u : Usim) (last : Option ℕ) (calls : List Call) → Chain u calls
+    → counted batch n last calls ≡ aka.answersTo width sets batch n (cardViews.usimOf u) last (map callOf calls)
+unfolding Chain counted aka.answersTo
+same-answers batch n u last [] c = refl
+same-answers batch n u last (call ∷ rest) c =
     let place = aka.placeOf batch n last (callOf call) in
     let after = aka.latest place last in
-    ap (λ (l : List aka.Step). record { place = place; last = after; answer = cardViews.answerOf (call .answer) } ∷ l)
-    (same-steps batch n (call .answer .usim) after rest (c .1))
+    ap (λ (l : List aka.AnsweredCall). record { place = place; last = after; answer = cardViews.answerOf (call .answer) } ∷ l)
+    (same-answers batch n (call .answer .usim) after rest (c .1))
     ∙ ap
-    (λ (x : usim.UsimAnswer). record { place = place; last = after; answer = x } ∷ aka.steps width sets batch n (x .usim) after (map callOf rest))
+    (λ (x : usim.UsimAnswer). record { place = place; last = after; answer = x } ∷ aka.answersTo width sets batch n (x .usim) after (map callOf rest))
     (c .0)
 
 -- what `aka` concludes, of any two answers
 pub record Of (F : Functions) (n : ℕ) (failure : usim.UsimAnswer) (renewal : AucAnswer) : Type 0 where
   pub sent : (renewal .outcome ≡ kept) ⊎ (renewal .outcome ≡ reset)
   pub all : (calls : List aka.Call)
-      → aka.Each aka.OtherNotAccepted (aka.steps width sets (renewal .batch) n (failure .usim) none calls)
-      → aka.Each (aka.Holds width F (renewal .batch) n (renewal .auc .seqhe)) (aka.steps width sets (renewal .batch) n (failure .usim) none calls)
+      → aka.Each aka.OtherNotAccepted (aka.answersTo width sets (renewal .batch) n (failure .usim) none calls)
+      → aka.Each (aka.Promised width F (renewal .batch) n (renewal .auc .seqhe)) (aka.answersTo width sets (renewal .batch) n (failure .usim) none calls)
 
 of-definitions : (s : Setting) → aka.Premise width sets (settingOf s)
     → Of (sets .under (keysOf (s .usim .keys))) (countOf (s .count)) (aka.failure width sets (settingOf s)) (aka.renewal width sets (settingOf s))
@@ -59,11 +59,11 @@ pub running : Demand3
 running s ran p =
     let c = of-code s ran p in
     let n = countOf (s .count) in
-    let Holds = aka.Holds width (sets .under (keysOf (s .usim .keys))) (s .batch) n (s .renewal .auc .seqhe) in
+    let Holds = aka.Promised width (sets .under (keysOf (s .usim .keys))) (s .batch) n (s .renewal .auc .seqhe) in
     record {
       sent = c .sent;
       all = λ calls chain other.
-          let e = same-steps (s .batch) n (s .failure .usim) none calls chain in
-          subst (λ (l : List aka.Step). aka.Each Holds l) (sym e)
-          (c .all (map callOf calls) (subst (λ (l : List aka.Step). aka.Each aka.OtherNotAccepted l) e other));
+          let e = same-answers (s .batch) n (s .failure .usim) none calls chain in
+          subst (λ (l : List aka.AnsweredCall). aka.Each Holds l) (sym e)
+          (c .all (map callOf calls) (subst (λ (l : List aka.AnsweredCall). aka.Each aka.OtherNotAccepted l) e other));
     }

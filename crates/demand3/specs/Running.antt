@@ -74,27 +74,30 @@ callOf call = record { rand = call .rand; autn = call .autn }
 
 -- the calls with what they are counted as (`aka` `Demand3.placeOf`) and what the card answered
 module _ (batch : Octets) (n : ℕ) where
-  unfoldable pub steps : (last : Option ℕ) → List Call → List aka.Step
-  steps last [] = []
-  steps last (call ∷ rest) =
+  unfoldable pub counted : (last : Option ℕ) → List Call → List aka.AnsweredCall
+  counted last [] = []
+  counted last (call ∷ rest) =
       record {
         place = aka.placeOf batch n last (callOf call);
         last = aka.latest (aka.placeOf batch n last (callOf call)) last;
         answer = cardViews.answerOf (call .answer);
       }
-      ∷ steps (aka.latest (aka.placeOf batch n last (callOf call)) last) rest
+      ∷ counted (aka.latest (aka.placeOf batch n last (callOf call)) last) rest
 
 module _ (s : Setting) where
-  abbrev pub stepsOf : List Call → List aka.Step
-  stepsOf calls = steps (s .batch) (countOf (s .count)) none calls
+  abbrev pub answered : List Call → List aka.AnsweredCall
+  answered calls = counted (s .batch) (countOf (s .count)) none calls
 
   pub record Conclusion : Type 0 where
     -- the centre sends a batch
     pub sent : (centreViews.outcomeOf (s .renewal .outcome) ≡ kept) ⊎ (centreViews.outcomeOf (s .renewal .outcome) ≡ reset)
     -- for every list of calls that starts from the record that the failure left, each other call not being accepted:
-    -- each call of the batch is accepted with its vector's XRES, CK and IK, SEQ_MS is its SEQ, and SEQ_HE is ahead as `aka` `Demand3.Holds` says
-    pub all : (calls : List Call) → Chain (s .failure .usim) calls → aka.Each aka.OtherNotAccepted (stepsOf calls)
-        → aka.Each (aka.Holds width (sets .under (keysOf (s .usim .keys))) (s .batch) (countOf (s .count)) (s .renewal .auc .seqhe)) (stepsOf calls)
+    -- each call of the batch is accepted with its vector's XRES, CK and IK, SEQ_MS is its SEQ, and SEQ_HE is ahead as `aka`
+    -- `Demand3.Promised` says
+    pub all : (calls : List Call) → Chain (s .failure .usim) calls → aka.Each aka.OtherNotAccepted (answered calls)
+        → aka.Each
+        (aka.Promised width (sets .under (keysOf (s .usim .keys))) (s .batch) (countOf (s .count)) (s .renewal .auc .seqhe))
+        (answered calls)
 
 -- `aka.Premise`: valid records of the same keys, count and lent parts as named, room, and a synchronisation failure
 abbrev pub Demand3 : Type 0
