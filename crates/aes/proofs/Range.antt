@@ -17,7 +17,8 @@ unfolding digits xor shiftRows roundKey addRoundKey lastRound cipher
 length-cipher w input = refl
 
 side-by-side : (p q r s : Octets) → Below 256 p → Below 256 q → Below 256 r → Below 256 s → Below 256 (p ++ (q ++ (r ++ s)))
-side-by-side p q r s hp hq hr hs = below-append 256 p (q ++ (r ++ s)) hp (below-append 256 q (r ++ s) hq (below-append 256 r s hr hs))
+side-by-side p q r s hp hq hr hs =
+    below-append 256 p (q ++ (r ++ s)) hp (below-append 256 q (r ++ s) hq (below-append 256 r s hr hs))
 
 columns-below : (a b c d : ℕ) → Below 256 (columns a b c d)
 columns-below a b c d = side-by-side (encode 4 a) (encode 4 b) (encode 4 c) (encode 4 d) (four a) (four b) (four c) (four d)
@@ -34,7 +35,9 @@ state-below f h = side-by-side (column f 0) (column f 1) (column f 2) (column f 
 pub cipher-below : (w : List ℕ) (input : Octets) → Below 256 (cipher w input)
 unfolding subBytes shiftRows roundKey addRoundKey lastRound cipher
 cipher-below w input =
-    let s = subBytes (rounds w 9 (addRoundKey w 0 input)) in
+    let before = rounds w 9 (addRoundKey w 0 input) in
+    let s = subBytes before in
+    let octet : (i : ℕ) → getD s i 0 < 256 = λ i. below-at 256 s i (omega arith) (below-map 256 sbox before sbox-lt) in
     below-xor 8 (shiftRows s) (roundKey w 10)
-    (state-below (λ r c. at s r ((c + r) % 4)) (λ r c. below-at 256 s (r + 4 * ((c + r) % 4)) (omega arith) (below-map 256 sbox (rounds w 9 (addRoundKey w 0 input)) sbox-lt)))
+    (state-below (λ r c. at s r ((c + r) % 4)) (λ r c. octet (r + 4 * ((c + r) % 4))))
     (columns-below (getD w 40 0) (getD w 41 0) (getD w 42 0) (getD w 43 0))

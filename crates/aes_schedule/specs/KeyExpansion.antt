@@ -1,4 +1,4 @@
--- The key expansion of AES-128: FIPS 197, section 5.2. Assumes nothing: these are definitions.
+-- The key expansion of AES-128: FIPS 197, section 5.2, in its letters: w is the key schedule. Assumes nothing: these are definitions.
 use Prim.Native.Nat.{ℕ, zero, suc, _+_, _-_, _/_, _%_}
 use mathlib.Core.Bool.{cond}
 use mathlib.Core.List.{List, [], _∷_, _++_, map}
@@ -16,14 +16,14 @@ unfoldable pub subWord : ℕ → ℕ
 subWord x = decode (map sbox (encode 4 x))
 
 -- the octet of Rcon[j] that is not 0: x^(j-1)
-abbrev pub rc : ℕ → ℕ
-rc j = xtimes (j - 1) 1
+unfoldable pub rconOctet : ℕ → ℕ
+rconOctet j = xtimes (j - 1) 1
 
 -- Rcon[j]
 unfoldable pub rcon : ℕ → ℕ
-rcon j = decode (rc j ∷ 0 ∷ 0 ∷ 0 ∷ [])
+rcon j = decode (rconOctet j ∷ 0 ∷ 0 ∷ 0 ∷ [])
 
--- what is added to w[i - 4], of w[i - 1]
+-- what w[i - 4] is added to, of w[i - 1]
 unfoldable pub temp : ℕ → ℕ → ℕ
 temp x i = cond (eqb (i % 4) 0) (bitXor (subWord (rotWord x)) (rcon (i / 4))) x
 

@@ -1,1 +1,2 @@
 pub mod KeyExpansion
+pub mod NextRcon

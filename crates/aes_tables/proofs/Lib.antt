@@ -1,4 +1,2 @@
-pub mod Tables
-pub mod Products
 pub mod Rules
 pub mod Range

@@ -1,4 +1,4 @@
--- The S-box of FIPS 197, section 5.1.1. Assumes nothing: these are definitions.
+-- The S-box of FIPS 197, section 5.1.1, by the product of document 01. Assumes nothing: these are definitions.
 use mathlib.Core.List.{List, [], _∷_, map}
 use mathlib.Core.Path.{_≡_}
 use Prim.Native.Nat.{ℕ, zero, suc, _+_, _%_, _<_}
@@ -28,3 +28,11 @@ sbox x = affine (inverse x)
 -- a table that holds the S-box, entry by entry
 unfoldable pub IsSbox : List ℕ → Type 0
 IsSbox table = (x : ℕ) → x < 256 → getD table x 0 ≡ sbox x
+
+-- what document 01 says of the rule beside its formula
+pub record SboxLaws : Type 0 where
+  -- x^254 is the inverse of x, and 0 counts as its own
+  pub inverse-right : (x : ℕ) → x < 256 → (x ≡ 0 → ⊥) → times x (inverse x) ≡ 1
+  pub inverse-zero : inverse 0 ≡ 0
+  pub entry-0 : sbox 0 ≡ 0x63
+  pub entry-1 : sbox 1 ≡ 0x7c

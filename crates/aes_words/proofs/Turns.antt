@@ -31,7 +31,11 @@ module _ (i j x : ℕ) (h : x / 256 ^ j < 256 ^ i) where
   moved =
       digits-split 256 j i (x * 256 ^ i + x / 256 ^ j)
       ∙ ap₂ (λ (l r : Octets). l ++ r) (ap (digits 256 j) (digits-div x h)) (digits-low 256 i x (x / 256 ^ j) (omega arith))
-      ∙ rw (digits-split 256 i j x, take-at (digits 256 i (x / 256 ^ j)) (digits 256 j x) i front, drop-at (digits 256 i (x / 256 ^ j)) (digits 256 j x) i front)
+      ∙ rw (
+        digits-split 256 i j x,
+        take-at (digits 256 i (x / 256 ^ j)) (digits 256 j x) i front,
+        drop-at (digits 256 i (x / 256 ^ j)) (digits 256 j x) i front,
+      )
 
   -- where the word r is that number less what is shifted out
   pub turned : (q r : ℕ) → q * 256 ^ (j + i) + r ≡ x * 256 ^ i + x / 256 ^ j → encode (j + i) r ≡ turnLeft i (encode (i + j) x)

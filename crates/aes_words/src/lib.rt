@@ -1,7 +1,7 @@
 // Words of four octets, the first the most significant, and blocks of four words.
 ghost use mathlib.Core.Path.{_≡_};
 ghost use mathlib.Core.List.{[], _∷_};
-ghost use Rattle.octets.specs.Octets.{turnLeft, encode};
+ghost use Rattle.octets.specs.Octets.{turnLeft, xor as xorOctets, encode};
 ghost use Rattle.aes_words.specs.Words.{octet};
 ghost use Rattle.aes_words.specs.Block.{octetsOf};
 
@@ -44,6 +44,18 @@ pub fn second(x: u32) -> u8
     ensures { λ r. ⌜ r ≡ octet 1 x ⌝ }
 {
     ((x >> 16) % 256) as u8
+}
+
+// The sum of two blocks.
+pub fn xor(p: Block, q: Block) -> Block
+    ensures { λ r. ⌜ octetsOf r ≡ xorOctets (octetsOf p) (octetsOf q) ⌝ }
+{
+    Block {
+        a: p.a ^ q.a,
+        b: p.b ^ q.b,
+        c: p.c ^ q.c,
+        d: p.d ^ q.d,
+    }
 }
 
 pub fn from_octets(x: [u8; 16]) -> Block

@@ -1,12 +1,13 @@
--- What the code goes by: doubling without a branch, and the product by halving one factor. Assumes nothing.
+-- Doubling without a branch, and the laws of the product. Assumes nothing.
 use mathlib.Core.Path.{_≡_, refl, sym, ap, ap₂, _∙_}
 use mathlib.Core.Logic.{⊎-elim}
 use Prim.Native.Nat.{ℕ, zero, suc, _+_, _-_, _*_, _/_, _%_, _^_, _≤_, _<_}
-use native.Mathlib.Nat.{zero-mul, zero-add, zero-div, one-mul, mul-le-mul-right, pow-succ', div-one, div-div-eq-div-mul, eq-zero-or-pos, add-zero, add-suc, suc-add}
+use native.Mathlib.Nat.{zero-mul, zero-add, one-mul, mul-le-mul-right, pow-suc, div-one, div-div-eq-div-mul, eq-zero-or-pos}
 use native.Mathlib.Omega.{arith}
 use borrow.Author.Tests.{lt-ltb, le-ltb}
 use lib.Bits.{bitXor, xor-block, xor-zero-r}
-use Rattle.gf256.specs.Field.{m, xtime, xtimes, bit, sum, times}
+use Rattle.gf256.specs.Field.{m, xtime, halving, times, xtimes, bit, sum}
+use Rattle.gf256.specs.FieldLaws.{FieldLaws}
 
 -- ---- doubling
 
@@ -32,37 +33,50 @@ module _ (b : ℕ) where
 
 -- ---- the product
 
--- a sum of zeros
-none : (f : ℕ → ℕ) (j n : ℕ) → ((k : ℕ) → f k ≡ 0) → sum f j n ≡ 0
-unfolding sum
-none f j zero e = refl
-none f j (suc n) e = ap₂ bitXor (none f (suc j) n e) (e j)
+halving-zero : (n b : ℕ) → halving n 0 b ≡ 0
+unfolding halving
+halving-zero zero b = refl
+halving-zero (suc n) b = refl
 
--- a term of 0 at the end
-last : (f : ℕ → ℕ) (j n : ℕ) → f (j + n) ≡ 0 → sum f j (suc n) ≡ sum f j n
-unfolding sum
-last f j zero e = ap (bitXor 0) (ap f (sym (add-zero j)) ∙ e)
-last f j (suc n) e = ap (λ (x : ℕ). bitXor x (f j)) (last f (suc j) n (ap f (suc-add j n ∙ sym (add-suc j n)) ∙ e))
+-- one halving, of zero too
+halving-step : (n a b : ℕ) → halving (suc n) a b ≡ bitXor (halving n (a / 2) (xtime b)) (a % 2 * b)
+unfolding halving
+halving-step n zero b = sym (ap₂ bitXor (halving-zero n (xtime b)) (zero-mul b))
+halving-step n (suc a) b = refl
 
--- the terms of a from x on are those of a / 2, with b doubled
-shifted : (a b j n : ℕ) → sum (λ k. bit k a * xtimes k b) (suc j) n ≡ sum (λ k. bit k (a / 2) * xtimes k (xtime b)) j n
-unfolding sum xtimes
-shifted a b j zero = refl
-shifted a b j (suc n) =
-    ap₂ bitXor (shifted a b (suc j) n)
-    (ap (λ (x : ℕ). x % 2 * xtimes j (xtime b)) (ap (λ (p : ℕ). a / p) (pow-succ' 2 j) ∙ sym (div-div-eq-div-mul a 2 (2 ^ j))))
+-- once the factor is zero, more halvings change nothing
+halving-more : (n a b : ℕ) → a < 2 ^ n → halving n a b ≡ halving (suc n) a b
+unfolding halving
+halving-more zero zero b h = refl
+halving-more zero (suc a) b h = absurd (omega arith)
+halving-more (suc n) zero b h = refl
+halving-more (suc n) (suc a) b h =
+    ap (λ (x : ℕ). bitXor x (suc a % 2 * b)) (halving-more n (suc a / 2) (xtime b) (omega (arith, pow-suc 2 n)))
 
-pub times-zero : (b : ℕ) → times 0 b ≡ 0
-unfolding times
-times-zero b = none (λ k. bit k 0 * xtimes k b) 0 8 (λ k. rw (zero-div (2 ^ k)) (zero-mul (xtimes k b)))
+-- doubled once more, first or last
+pub doubled-last : (j b : ℕ) → xtimes j (xtime b) ≡ xtime (xtimes j b)
+unfolding xtimes
+doubled-last zero b = refl
+doubled-last (suc j) b = doubled-last j (xtime b)
 
-pub times-step : (a b : ℕ) → a < 256 → times a b ≡ bitXor (times (a / 2) (xtime b)) (a % 2 * b)
-unfolding sum times xtimes
-times-step a b h =
-    let top : bit 7 (a / 2) ≡ 0 = omega arith in
-    ap₂ bitXor
-    (shifted a b 0 7 ∙ sym (last (λ k. bit k (a / 2) * xtimes k (xtime b)) 0 7 (rw top (zero-mul (xtimes 7 (xtime b))))))
-    (rw (div-one a))
+-- the terms of a from x^j on
+terms-from : (a b j n : ℕ) → sum (λ k. bit k a * xtimes k b) j n ≡ halving n (a / 2 ^ j) (xtimes j b)
+unfolding sum xtimes halving
+terms-from a b j zero = refl
+terms-from a b j (suc n) =
+    ap (λ (r : ℕ). bitXor r (bit j a * xtimes j b))
+    (terms-from a b (suc j) n
+    ∙ ap₂ (halving n) (ap (λ (p : ℕ). a / p) (pow-suc 2 j) ∙ sym (div-div-eq-div-mul a (2 ^ j) 2)) (doubled-last j b))
+    ∙ sym (halving-step n (a / 2 ^ j) (xtimes j b))
+
+pub field-laws : FieldLaws
+unfolding times xtimes
+field-laws = record {
+  terms = λ a b. sym (terms-from a b 0 8 ∙ ap (λ (q : ℕ). halving 8 q b) (div-one a));
+  zero = λ b. halving-zero 8 b;
+  halved = λ a b h.
+      halving-step 7 a b ∙ ap (λ (x : ℕ). bitXor x (a % 2 * b)) (halving-more 7 (a / 2) (xtime b) (omega arith));
+}
 
 -- a coefficient times b is at most b
 pub coefficient-le : (a b : ℕ) → a % 2 * b ≤ b

@@ -13,6 +13,20 @@ m = 0x11b
 unfoldable pub xtime : ℕ → ℕ
 xtime b = cond (ltb (b * 2) 256) (b * 2) (bitXor (b * 2) m)
 
+-- ---- the product of document 01: one factor is halved until it is zero, the other doubled at each step
+
+-- a times b in at most n halvings of a: b where a has the term 1, and what is left of a, halved, times b doubled
+unfoldable pub halving : (n a b : ℕ) → ℕ
+halving zero a b = 0
+halving (suc n) zero b = 0
+halving (suc n) (suc a) b = bitXor (halving n (suc a / 2) (xtime b)) (suc a % 2 * b)
+
+-- a times b: an octet is zero after eight halvings
+unfoldable pub times : ℕ → ℕ → ℕ
+times a b = halving 8 a b
+
+-- ---- the product of FIPS 197 (4.2): for each term x^j of a, b times x^j. `FieldLaws` has that it is the same
+
 -- b times x^j
 unfoldable pub xtimes : ℕ → ℕ → ℕ
 xtimes zero b = b
@@ -27,6 +41,5 @@ unfoldable pub sum : (ℕ → ℕ) → ℕ → ℕ → ℕ
 sum f j zero = 0
 sum f j (suc n) = bitXor (sum f (suc j) n) (f j)
 
--- a times b: for each term x^j of a, b times x^j
-unfoldable pub times : ℕ → ℕ → ℕ
-times a b = sum (λ j. bit j a * xtimes j b) 0 8
+abbrev pub timesByTerms : ℕ → ℕ → ℕ
+timesByTerms a b = sum (λ j. bit j a * xtimes j b) 0 8

@@ -39,10 +39,13 @@ copied-at s d at size {t} is e h =
     )
     (sym (append-assoc (take at d) s (drop (at + length s) d)))
 
--- a part of x copied to the whole of d
-pub copied-part : (x d : Octets) (at n : ℕ) {t : Octets}
-    → t ≡ take (length (take (at + n - at) (drop at x))) (take (at + n - at) (drop at x)) ++ drop (length (take (at + n - at) (drop at x))) d
-    → length d ≡ n → at + n ≤ length x → t ≡ part at n x
-copied-part x d at n e size h =
-    let same : at + n - at ≡ n = omega arith in
-    copied-whole (take (at + n - at) (drop at x)) d e (ap (λ (k : ℕ). part at k x) same) (length-part at n x h ∙ sym size)
+-- a part of x, as the code has it by its end, copied to the whole of d
+module _ (x d : Octets) (at n : ℕ) where
+  abbrev lent : Octets
+  lent = take (at + n - at) (drop at x)
+
+  pub copied-part : {t : Octets} → t ≡ take (length lent) lent ++ drop (length lent) d
+      → length d ≡ n → at + n ≤ length x → t ≡ part at n x
+  copied-part e size h =
+      let same : at + n - at ≡ n = omega arith in
+      copied-whole lent d e (ap (λ (k : ℕ). part at k x) same) (length-part at n x h ∙ sym size)

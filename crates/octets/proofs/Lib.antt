@@ -1,3 +1,4 @@
+pub mod Absurd
 pub mod Xor
 pub mod Numbers
 pub mod Strings

@@ -3,7 +3,9 @@ use Prim.Native.Nat.{ℕ, zero, suc, _+_, _*_, _/_, _%_, _^_, _<_}
 use mathlib.Core.List.{List, [], _∷_, _++_, append-assoc, append-nil}
 use mathlib.Core.Logic.{⊎-elim}
 use mathlib.Core.Path.{_≡_, refl, sym, ap, ap₂, _∙_}
-use native.Mathlib.Nat.{add-mul, add-assoc, mul-assoc, zero-mul, zero-add, pow-zero, pow-suc, pow-succ', mod-one, mod-lt, mod-eq-of-lt, div-one, div-div-eq-div-mul, eq-or-lt-of-le, mul-pos, add-zero, add-suc, mul-add-div-right, mul-add-mod-self-right}
+use native.Mathlib.Nat.{add-mul, add-assoc, mul-assoc, zero-mul, zero-add, pow-zero, pow-suc, pow-succ', mod-one, mod-lt, mod-eq-of-lt}
+use native.Mathlib.Nat.{div-one, div-div-eq-div-mul, eq-or-lt-of-le, mul-pos, add-zero, add-suc, mul-add-div-right}
+use native.Mathlib.Nat.{mul-add-mod-self-right}
 use native.Mathlib.Omega.{arith}
 use lib.Arith.{digits-div, digits-mod, digits-lt, mod-mul}
 use lib.Bits.{bitXor, xor-shr, xor-mod}
@@ -45,7 +47,8 @@ unfolding digits
 digits-cons base zero x = rw (pow-zero, div-one)
 digits-cons base (suc n) x =
     ap (λ (l : List ℕ). l ++ (x % base ∷ [])) (digits-cons base n (x / base))
-    ∙ ap (λ (y : ℕ). y % base ∷ (digits base n (x / base) ++ (x % base ∷ []))) (div-div-eq-div-mul x base (base ^ n) ∙ ap (λ (y : ℕ). x / y) (sym (pow-succ' base n)))
+    ∙ ap (λ (y : ℕ). y % base ∷ (digits base n (x / base) ++ (x % base ∷ [])))
+    (div-div-eq-div-mul x base (base ^ n) ∙ ap (λ (y : ℕ). x / y) (sym (pow-succ' base n)))
 
 -- the first i and the last j of them
 pub digits-split : (base i j x : ℕ) → digits base (i + j) x ≡ digits base i (x / base ^ j) ++ digits base j x
@@ -63,10 +66,11 @@ pub digits-low : (base n h x : ℕ) → 0 < base → digits base n (h * base ^ n
 unfolding digits
 digits-low base zero h x p = refl
 digits-low base (suc n) h x p =
-    let up : h * base ^ suc n + x ≡ h * base ^ n * base + x = ap (λ (y : ℕ). y + x) (ap (λ (y : ℕ). h * y) (pow-suc base n) ∙ sym (mul-assoc h (base ^ n) base)) in
-    ap₂ (λ (l : List ℕ) (d : ℕ). l ++ (d ∷ []))
-    (ap (λ (y : ℕ). digits base n (y / base)) up ∙ ap (digits base n) (mul-add-div-right p (h * base ^ n) x) ∙ digits-low base n h (x / base) p)
-    (ap (λ (y : ℕ). y % base) up ∙ mul-add-mod-self-right (h * base ^ n) base x)
+    let shifted : h * base ^ suc n ≡ h * base ^ n * base = ap (λ (y : ℕ). h * y) (pow-suc base n) ∙ sym (mul-assoc h (base ^ n) base) in
+    rw shifted
+    (ap₂ (λ (l : List ℕ) (d : ℕ). l ++ (d ∷ []))
+    (ap (digits base n) (mul-add-div-right p (h * base ^ n) x) ∙ digits-low base n h (x / base) p)
+    (mul-add-mod-self-right (h * base ^ n) base x))
 
 -- ---- reading
 

@@ -10,10 +10,17 @@ use Rattle.aes.proofs.encrypt.Statement.{statement}
 use Rattle.aes.proofs.encrypt.Tie as tie
 
 abbrev Inv-loop : tie.InvT-loop
-Inv-loop t w s₀ done₀ s done = (done ≤ 9) × (octetsOf s ≡ rounds w done (octetsOf s₀))
+Inv-loop table w s₀ done₀ s done = (done ≤ 9) × (octetsOf s ≡ rounds w done (octetsOf s₀))
 
 abbrev μ-loop : tie.MeasureT-loop
-μ-loop t w s₀ done₀ s done = 9 - done
+μ-loop table w s₀ done₀ s done = 9 - done
+
+-- the stations
+abbrev head : tie.After-last-round Inv-loop μ-loop → tie.At-loop Inv-loop μ-loop
+head c = c .before .before
+
+abbrev begun : tie.After-last-round Inv-loop μ-loop → tie.After-add-round-key Inv-loop μ-loop
+begun c = head c .before
 
 loop-holds : tie.Need-loop-holds Inv-loop μ-loop
 unfolding rounds
@@ -25,11 +32,12 @@ loop-again c = (omega arith, next-round _ _ _ _ _ (c .before .before .loop .inv 
 returns : tie.Need-returns Inv-loop μ-loop
 unfolding cipher
 returns c =
-    let l = c .before .before in
-    let w = l .before .before .args .w .now in
-    let nine : l .loop .done ≡ 9 = omega arith in
+    let l = head c .loop in
+    let w = begun c .before .args .w .now in
+    let s₀ = begun c .add-round-key in
+    let nine : l .done ≡ 9 = omega arith in
     c .last-round .ensures
-    ∙ ap (lastRound w 10) (l .loop .inv .1 ∙ ap (λ (n : ℕ). rounds w n (octetsOf (l .before .add-round-key .result))) nine ∙ ap (rounds w 9) (l .before .add-round-key .ensures))
+    ∙ ap (lastRound w 10) (l .inv .1 ∙ ap (λ (n : ℕ). rounds w n (octetsOf (s₀ .result))) nine ∙ ap (rounds w 9) (s₀ .ensures))
 
 pub encrypt-spec : {M : Type 1} → statement M
 encrypt-spec =

@@ -8,11 +8,14 @@ use borrow.Author.Needs.{needs}
 use Rattle.aes_schedule.proofs.next_word.Statement.{statement}
 use Rattle.aes_schedule.proofs.next_word.Tie as tie
 
+abbrev entry : tie.After-temp → tie.Start
+entry c = c .before .before .before
+
 returns : tie.Need-returns
 unfolding nextWord
 returns c =
-    let z = c .before .before .before .args in
-    ap (bitXor (getD (z .w .now) (z .i - 4) 0)) (c .added .ensures)
+    let args = entry c .args in
+    ap (bitXor (getD (args .w .now) (args .i - 4) 0)) (c .temp .ensures)
 
 pub next-word-spec : {M : Type 1} → statement M
 next-word-spec =

@@ -12,16 +12,19 @@ use borrow.Author.Needs.{needs}
 use Rattle.aes_schedule.proofs.sub_word.Statement.{statement}
 use Rattle.aes_schedule.proofs.sub_word.Tie as tie
 
+abbrev entry : tie.After-word → tie.Start
+entry c = c .before .before .before .before .before
+
 returns : tie.Need-returns
 unfolding digits IsSbox subWord
 returns c =
-    let z = c .before .before .before .before .before in
-    let x = z .args .x in
+    let is-sbox = entry c .pre in
+    let x = entry c .args .x in
     whole (c .word .result) _ (omega arith)
     (c .word .ensures
-    ∙ ap₂ _∷_ (z .pre _ (omega arith) ∙ ap (λ (y : ℕ). sbox (y % 256)) (shifted3 x))
-    (ap₂ _∷_ (z .pre _ (omega arith) ∙ ap (λ (y : ℕ). sbox (y % 256)) (shifted2 x))
-    (ap₂ _∷_ (z .pre _ (omega arith)) (ap₂ _∷_ (z .pre _ (omega arith)) refl))))
+    ∙ ap₂ _∷_ (is-sbox _ (omega arith) ∙ ap (λ (y : ℕ). sbox (y % 256)) (shifted3 x))
+    (ap₂ _∷_ (is-sbox _ (omega arith) ∙ ap (λ (y : ℕ). sbox (y % 256)) (shifted2 x))
+    (ap₂ _∷_ (is-sbox _ (omega arith)) (ap₂ _∷_ (is-sbox _ (omega arith)) refl))))
 
 pub sub-word-spec : {M : Type 1} → statement M
 sub-word-spec =

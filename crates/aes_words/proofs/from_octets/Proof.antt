@@ -6,11 +6,17 @@ use borrow.Author.Needs.{needs}
 use Rattle.aes_words.proofs.from_octets.Statement.{statement}
 use Rattle.aes_words.proofs.from_octets.Tie as tie
 
+-- the stations: the words before the last
+abbrev second : tie.After-word4 → tie.After-word2
+second c = c .before .before
+
+abbrev first : tie.After-word4 → tie.After-word
+first c = second c .before
+
 returns : tie.Need-returns
 returns c =
-    let first = c .before .before .before in
-    joined _ _ _ _ (first .word .ensures) (c .before .before .word2 .ensures) (c .before .word3 .ensures) (c .word4 .ensures)
-    ∙ listed-all _ 16 (first .before .good .0 .1 .0 .1)
+    joined _ _ _ _ (first c .word .ensures) (second c .word2 .ensures) (c .before .word3 .ensures) (c .word4 .ensures)
+    ∙ listed-all _ 16 (first c .before .good .0 .1 .0 .1)
 
 pub from-octets-spec : {M : Type 1} → statement M
 from-octets-spec =

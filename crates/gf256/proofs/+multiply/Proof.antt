@@ -5,7 +5,7 @@ use borrow.Author.Needs.{needs}
 use native.Mathlib.Omega.{arith}
 use borrow.Fn.Kinds.{In}
 use borrow.Fn.PlainCycle.{Measures, is, falls, and}
-use Rattle.gf256.proofs.Laws.{times-zero, times-step, coefficient-le}
+use Rattle.gf256.proofs.Laws.{field-laws, coefficient-le}
 use Rattle.gf256.proofs.multiply.Reads as multiply
 use Rattle.gf256.proofs.multiply.Kinds as multiply-kinds
 use Rattle.gf256.proofs.+multiply.Lts-multiply as lts
@@ -30,16 +30,15 @@ module _ (t : ℕ) where
   multiply-requires c κs = (omega arith, tt)
 
   mul-result : lts.Need-mul-result (double.Asked, double.Learnt, below, multiply.Post) at multiply.Post
-  mul-result c =
-      omega (arith, coefficient-le (c .before .before .before .args .a) (c .before .before .before .args .b))
+  mul-result c = let args = c .before .before .before .args in omega (arith, coefficient-le (args .a) (args .b))
 
   returns : lts.Need-returns (double.Asked, double.Learnt, below, multiply.Post) at multiply.Post
-  returns c = rw (c .if1 .taken) (sym (times-zero _))
+  returns c = rw (c .if1 .taken) (sym (field-laws .zero _))
 
   returns-2 : lts.Need-returns-2 (double.Asked, double.Learnt, below, multiply.Post) at multiply.Post
   returns-2 c =
       let args = c .before .before .before .args in
-      rw (c .multiply .ensures, c .before .double .ensures) (sym (times-step (args .a) (args .b) (omega arith)))
+      rw (c .multiply .ensures, c .before .double .ensures) (sym (field-laws .halved (args .a) (args .b) (omega arith)))
 
 pub +multiply-spec : {M : Type 1} → statement M
 +multiply-spec =
