@@ -1,13 +1,12 @@
--- Sums of blocks by their words. Assumes nothing.
+-- The constants c2 to c5, and the outputs step by step. Assumes nothing.
 use Prim.Native.Nat.{ℕ, _/_, _%_, _<_}
 use mathlib.Core.List.{append-nil}
 use mathlib.Core.Path.{_≡_, refl, sym, ap, _∙_}
 use native.Mathlib.Omega.{arith}
 use lib.Bits.{bitXor, xor-zero-r}
 use Rattle.octets.specs.Octets.{Octets, digits, encode, xor, turnLeft}
-use Rattle.octets.proofs.Numbers.{digits-xor}
 use Rattle.aes_words.specs.Words.{columns}
-use Rattle.aes_words.proofs.Blocks.{joined}
+use Rattle.aes_words.proofs.Blocks.{joined, xor-columns}
 use Rattle.milenage.specs.Milenage.{constant, out1, out}
 
 constant-columns : (x : ℕ) → x < 256 → columns 0 0 0 x ≡ constant x
@@ -17,16 +16,13 @@ constant-columns x h =
     let low : x % 256 ≡ x = omega arith in
     rw (none, low)
 
-module _ (a b c d : ℕ) where
-  pub added : (e f g h : ℕ) → columns (bitXor a e) (bitXor b f) (bitXor c g) (bitXor d h) ≡ xor (columns a b c d) (columns e f g h)
-  unfolding digits xor
-  added e f g h =
-      joined (bitXor a e) (bitXor b f) (bitXor c g) (bitXor d h) (digits-xor 8 4 a e) (digits-xor 8 4 b f) (digits-xor 8 4 c g) (digits-xor 8 4 d h)
-
-  pub added-constant : (x : ℕ) → x < 256 → columns a b c (bitXor d x) ≡ xor (columns a b c d) (constant x)
-  added-constant x h =
-      sym (joined (bitXor a 0) (bitXor b 0) (bitXor c 0) (bitXor d x) (ap (encode 4) (xor-zero-r a)) (ap (encode 4) (xor-zero-r b)) (ap (encode 4) (xor-zero-r c)) refl)
-      ∙ added 0 0 0 x ∙ ap (xor (columns a b c d)) (constant-columns x h)
+pub added-constant : (a b c d x : ℕ) → x < 256 → columns a b c (bitXor d x) ≡ xor (columns a b c d) (constant x)
+added-constant a b c d x h =
+    sym (joined (bitXor a 0) (bitXor b 0) (bitXor c 0) (bitXor d x) (unchanged a) (unchanged b) (unchanged c) refl)
+    ∙ xor-columns a b c d 0 0 0 x ∙ ap (xor (columns a b c d)) (constant-columns x h)
+  where
+    unchanged : (y : ℕ) → encode 4 (bitXor y 0) ≡ encode 4 y
+    unchanged y = ap (encode 4) (xor-zero-r y)
 
 -- an output of TEMP, step by step
 module _ (E : Octets → Octets) (opc t : Octets) (r c : ℕ) {s u v q : Octets} where

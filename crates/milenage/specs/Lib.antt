@@ -1,1 +1,2 @@
 pub mod Milenage
+pub mod Opc

@@ -1,24 +1,13 @@
-// Blocks of four words: sums, and turns by whole words.
+// Blocks of four words: turns by whole words, and the constants c2 to c5.
 use aes_words::Block;
 ghost use mathlib.Core.Path.{_≡_};
 ghost use Prim.Native.Nat.{_<_};
-ghost use Rattle.octets.specs.Octets.{xor as xorOctets, turnLeft};
+ghost use Rattle.octets.specs.Octets.{xor, turnLeft};
 ghost use Rattle.aes_words.specs.Block.{octetsOf};
 ghost use Rattle.milenage.specs.Milenage.{constant};
 
-pub fn xor(p: Block, q: Block) -> Block
-    ensures { λ r. ⌜ octetsOf r ≡ xorOctets (octetsOf p) (octetsOf q) ⌝ }
-{
-    Block {
-        a: p.a ^ q.a,
-        b: p.b ^ q.b,
-        c: p.c ^ q.c,
-        d: p.d ^ q.d,
-    }
-}
-
 // Turned left by one word, which is 32 bits.
-pub(crate) fn left1(p: Block) -> Block
+pub fn left1(p: Block) -> Block
     ensures { λ r. ⌜ octetsOf r ≡ turnLeft 4 (octetsOf p) ⌝ }
 {
     Block {
@@ -29,7 +18,7 @@ pub(crate) fn left1(p: Block) -> Block
     }
 }
 
-pub(crate) fn left2(p: Block) -> Block
+pub fn left2(p: Block) -> Block
     ensures { λ r. ⌜ octetsOf r ≡ turnLeft 8 (octetsOf p) ⌝ }
 {
     Block {
@@ -40,7 +29,7 @@ pub(crate) fn left2(p: Block) -> Block
     }
 }
 
-pub(crate) fn left3(p: Block) -> Block
+pub fn left3(p: Block) -> Block
     ensures { λ r. ⌜ octetsOf r ≡ turnLeft 12 (octetsOf p) ⌝ }
 {
     Block {
@@ -52,9 +41,9 @@ pub(crate) fn left3(p: Block) -> Block
 }
 
 // The block with `c` added to its last octet.
-pub(crate) fn with_constant(p: Block, c: u32) -> Block
+pub fn with_constant(p: Block, c: u32) -> Block
     requires { ⌜ c < 256 ⌝ }
-    ensures { λ r. ⌜ octetsOf r ≡ xorOctets (octetsOf p) (constant c) ⌝ }
+    ensures { λ r. ⌜ octetsOf r ≡ xor (octetsOf p) (constant c) ⌝ }
 {
     Block {
         a: p.a,

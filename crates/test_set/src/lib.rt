@@ -1,6 +1,7 @@
 // Set 0, of X.
 use aes_words::Block;
 ghost use mathlib.Core.Path.{_≡_};
+ghost use Prim.Native.Nat.{_≤_};
 ghost use mathlib.Core.List.{_++_};
 ghost use lib.ListN.{take};
 ghost use Rattle.octets.specs.Octets.{xor, turnLeft};
@@ -10,7 +11,7 @@ ghost use Rattle.aes_words.specs.Block.{octetsOf};
 pub fn x(k: [u8; 16], rand: [u8; 16]) -> Block
     ensures { λ r. ⌜ octetsOf r ≡ xor k rand ⌝ }
 {
-    milenage::blocks::xor(aes_words::from_octets(k), aes_words::from_octets(rand))
+    aes_words::xor(aes_words::from_octets(k), aes_words::from_octets(rand))
 }
 
 // MAC and MAC-S, of SQN and AMF.
@@ -37,19 +38,13 @@ fn sqn_amf(sqn: [u8; 6], amf: [u8; 2]) -> [u8; 8]
     ]
 }
 
-// Turned left by 8 bits.
-pub fn left1(x: [u8; 16]) -> [u8; 16]
-    ensures { λ r. ⌜ r ≡ turnLeft 1 x ⌝ }
+// Turned left by `n` octets.
+pub fn turned_left(x: [u8; 16], n: usize) -> [u8; 16]
+    requires { ⌜ n ≤ 16 ⌝ }
+    ensures { λ r. ⌜ r ≡ turnLeft n x ⌝ }
 {
-    let first = x[0];
-    let mut turned = [first; 16];
-    bytes::copy(&x[1..], &mut turned);
+    let mut turned = [0u8; 16];
+    bytes::copy(&x[n..], &mut turned);
+    bytes::copy(&x[..n], &mut turned[16 - n..]);
     turned
-}
-
-// Turned left by 16 bits.
-pub fn left2(x: [u8; 16]) -> [u8; 16]
-    ensures { λ r. ⌜ r ≡ turnLeft 2 x ⌝ }
-{
-    left1(left1(x))
 }

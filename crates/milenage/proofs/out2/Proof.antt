@@ -5,9 +5,12 @@ use borrow.Author.Needs.{needs}
 use Rattle.milenage.proofs.out2.Statement.{statement}
 use Rattle.milenage.proofs.out2.Tie as tie
 
+abbrev summed : tie.After-masked → tie.After-xor
+summed c = c .before .before
+
 returns : tie.Need-returns
 returns c =
-    output _ _ _ 0 1 (c .before .before .xor .ensures) (sym (unturned _)) (c .before .with-constant .ensures) (c .masked .ensures)
+    output _ _ _ 0 1 (summed c .xor .ensures) (sym (unturned _)) (c .before .with-constant .ensures) (c .masked .ensures)
 
 pub out2-spec : {M : Type 1} → statement M
 out2-spec = tie.close

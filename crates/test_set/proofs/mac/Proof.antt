@@ -6,9 +6,14 @@ use borrow.Author.Needs.{needs}
 use Rattle.test_set.proofs.mac.Statement.{statement}
 use Rattle.test_set.proofs.mac.Tie as tie
 
+-- the station: the first half of X
+abbrev half : tie.After-xor8 → tie.After-eight
+half c = c .before .before
+
 returns : tie.Need-returns
 returns c =
-    c .xor8 .ensures ∙ ap₂ xor (c .before .before .eight .ensures ∙ ap (take 8) (c .before .before .before .to-octets .ensures)) (c .before .sqn-amf .ensures)
+    let x = half c .eight .ensures ∙ ap (take 8) (half c .before .to-octets .ensures) in
+    c .xor8 .ensures ∙ ap₂ xor x (c .before .sqn-amf .ensures)
 
 pub mac-spec : {M : Type 1} → statement M
 mac-spec =

@@ -4,9 +4,7 @@ use Rattle.milenage.proofs.blocks.with_constant.Statement.{statement}
 use Rattle.milenage.proofs.blocks.with_constant.Tie as tie
 
 returns : tie.Need-returns
-returns c =
-    let z = c .before in
-    added-constant (z .args .p .a) (z .args .p .b) (z .args .p .c) (z .args .p .d) (z .args .c) (z .pre)
+returns c = added-constant _ _ _ _ _ (c .before .pre)
 
 pub with-constant-spec : {M : Type 1} → statement M
 with-constant-spec = tie.close
