@@ -18,5 +18,3 @@ pub mod OrderOfUse
 pub mod Rising
 pub mod Demand3
 pub mod Table
-pub mod TestSet
-pub mod Witnesses

@@ -1,4 +1,4 @@
-pub mod Choice
+pub mod Outputs
 pub mod Family
-pub mod Sample
 pub mod Protocol
+pub mod Witnesses

@@ -1,14 +1,12 @@
-// The authentication functions f2 to f5* of sets 0 and 1; `mac_functions` has f1 and f1*. Once a call: `schedule`; once a RAND:
-// `start`, whose result each function takes. The round table of AES is lent throughout.
+// The authentication functions f1 to f5* of sets 0 and 1. Once a call: `schedule`; once a RAND: `prepare`, whose result each function
+// takes. The round table of AES is lent throughout.
 //
 // A set above 1 is the caller's to refuse; here it counts as MILENAGE.
 use aes_words::Block;
 ghost use mathlib.Core.Path.{_≡_};
-ghost use Rattle.octets.specs.Octets.{Octets};
-ghost use Rattle.aka.specs.Functions.{Keys as KeysOf};
 ghost use Rattle.aes_tables.specs.RoundTable.{IsRoundTable};
 ghost use Rattle.functions.specs.Sets.{sets};
-ghost use Rattle.functions.specs.Challenge.{keysOf, IsSchedule, Started};
+ghost use Rattle.functions.specs.Challenge.{keysOf, scheduleOf, IsSchedule, outputsFrom, Prepared};
 
 // What USIM and AuC hold of a subscriber: the function set, K and OPc.
 pub struct Keys {
@@ -17,11 +15,11 @@ pub struct Keys {
     pub opc: [u8; 16],
 }
 
-// A RAND taken up: `start` is X of set 0, T of MILENAGE.
+// A RAND taken up: `base` is X of set 0, T of MILENAGE.
 pub struct Challenge {
     pub set: u8,
     pub opc: Block,
-    pub start: Block,
+    pub base: Block,
 }
 
 // RES and AK.
@@ -39,7 +37,7 @@ pub fn is_known(set: u8) -> bool
 
 // The key schedule, for every challenge under these keys. Set 0 has no use for one.
 pub fn schedule(keys: Keys) -> [u32; 44]
-    ensures { λ r. ⌜ IsSchedule (keysOf keys) r ⌝ }
+    ensures { λ r. ⌜ r ≡ scheduleOf (keysOf keys) ⌝ }
 {
     let set = keys.set;
     if set == 0 {
@@ -50,9 +48,9 @@ pub fn schedule(keys: Keys) -> [u32; 44]
 }
 
 // A RAND taken up under the keys, with their schedule.
-pub fn start(t: &[u32; 256], w: &[u32; 44], keys: Keys, rand: [u8; 16]) -> Challenge
-    requires { ⌜ IsRoundTable (now t) × IsSchedule (keysOf keys) (now w) ⌝ }
-    ensures { λ r. ⌜ Started (keysOf keys) rand (now (w .entry)) r ⌝ }
+pub fn prepare(table: &[u32; 256], schedule: &[u32; 44], keys: Keys, rand: [u8; 16]) -> Challenge
+    requires { ⌜ IsRoundTable (now table) × IsSchedule (keysOf keys) (now schedule) ⌝ }
+    ensures { λ r. ⌜ Prepared (keysOf keys) rand (now (schedule .entry)) r ⌝ }
 {
     let set = keys.set;
     let k = keys.k;
@@ -60,32 +58,76 @@ pub fn start(t: &[u32; 256], w: &[u32; 44], keys: Keys, rand: [u8; 16]) -> Chall
     let opc = aes_words::from_octets(o);
     if set == 0 {
         let x = test_set::x(k, rand);
-        return Challenge { set, opc, start: x };
+        return Challenge { set, opc, base: x };
     }
-    let temp = milenage::temp(t, w, opc, aes_words::from_octets(rand));
+    let temp = milenage::temp(table, schedule, opc, aes_words::from_octets(rand));
     Challenge {
         set,
         opc,
-        start: temp,
+        base: temp,
     }
 }
 
-// RES and AK: f2 and f5 of RAND, which MILENAGE takes from one block.
-pub fn f2_f5(t: &[u32; 256], w: &[u32; 44], c: Challenge) -> ResAk
-    requires { ⌜ IsRoundTable (now t) ⌝ }
-    ensures { λ r. ⌜ ((keys : KeysOf) (rand : Octets) → Started keys rand (now (w .entry)) c → (r .res ≡ sets .under keys .f2 rand) × (r .ak ≡ sets .under keys .f5 rand)) ⌝ }
+// MAC: f1 of SQN, RAND and AMF.
+pub fn f1(
+    table: &[u32; 256],
+    schedule: &[u32; 44],
+    c: Challenge,
+    sqn: [u8; 6],
+    amf: [u8; 2],
+) -> [u8; 8]
+    requires { ⌜ IsRoundTable (now table) ⌝ }
+    ensures { λ r. ⌜ r ≡ outputsFrom (now (schedule .entry)) c .f1 sqn amf ⌝ }
 {
     let set = c.set;
     let opc = c.opc;
-    let start = c.start;
+    let base = c.base;
     if set == 0 {
-        let x = aes_words::to_octets(start);
+        return test_set::mac(base, sqn, amf);
+    }
+    let out1 = milenage::out1(table, schedule, opc, base, milenage::in1(sqn, amf));
+    octets::eight(aes_words::to_octets(out1), 0)
+}
+
+// MAC-S: f1* of SQN_MS, RAND and AMF.
+pub fn f1s(
+    table: &[u32; 256],
+    schedule: &[u32; 44],
+    c: Challenge,
+    sqn: [u8; 6],
+    amf: [u8; 2],
+) -> [u8; 8]
+    requires { ⌜ IsRoundTable (now table) ⌝ }
+    ensures { λ r. ⌜ r ≡ outputsFrom (now (schedule .entry)) c .f1* sqn amf ⌝ }
+{
+    let set = c.set;
+    let opc = c.opc;
+    let base = c.base;
+    if set == 0 {
+        return test_set::mac(base, sqn, amf);
+    }
+    let out1 = milenage::out1(table, schedule, opc, base, milenage::in1(sqn, amf));
+    octets::eight(aes_words::to_octets(out1), 8)
+}
+
+// RES and AK: f2 and f5 of RAND, which MILENAGE takes from one block.
+pub fn f2_f5(table: &[u32; 256], schedule: &[u32; 44], c: Challenge) -> ResAk
+    requires { ⌜ IsRoundTable (now table) ⌝ }
+    ensures { λ r. ⌜
+        (r .res ≡ outputsFrom (now (schedule .entry)) c .f2) × (r .ak ≡ outputsFrom (now (schedule .entry)) c .f5)
+        ⌝ }
+{
+    let set = c.set;
+    let opc = c.opc;
+    let base = c.base;
+    if set == 0 {
+        let x = aes_words::to_octets(base);
         return ResAk {
             res: octets::eight(x, 0),
             ak: octets::six(x, 3),
         };
     }
-    let out2 = aes_words::to_octets(milenage::out2(t, w, opc, start));
+    let out2 = aes_words::to_octets(milenage::out2(table, schedule, opc, base));
     ResAk {
         res: octets::eight(out2, 8),
         ak: octets::six(out2, 0),
@@ -93,43 +135,44 @@ pub fn f2_f5(t: &[u32; 256], w: &[u32; 44], c: Challenge) -> ResAk
 }
 
 // CK: f3 of RAND.
-pub fn f3(t: &[u32; 256], w: &[u32; 44], c: Challenge) -> [u8; 16]
-    requires { ⌜ IsRoundTable (now t) ⌝ }
-    ensures { λ r. ⌜ ((keys : KeysOf) (rand : Octets) → Started keys rand (now (w .entry)) c → r ≡ sets .under keys .f3 rand) ⌝ }
+pub fn f3(table: &[u32; 256], schedule: &[u32; 44], c: Challenge) -> [u8; 16]
+    requires { ⌜ IsRoundTable (now table) ⌝ }
+    ensures { λ r. ⌜ r ≡ outputsFrom (now (schedule .entry)) c .f3 ⌝ }
 {
     let set = c.set;
     let opc = c.opc;
-    let start = c.start;
+    let base = c.base;
     if set == 0 {
-        return test_set::left1(aes_words::to_octets(start));
+        return test_set::turned_left(aes_words::to_octets(base), 1);
     }
-    aes_words::to_octets(milenage::out3(t, w, opc, start))
+    aes_words::to_octets(milenage::out3(table, schedule, opc, base))
 }
 
 // IK: f4 of RAND.
-pub fn f4(t: &[u32; 256], w: &[u32; 44], c: Challenge) -> [u8; 16]
-    requires { ⌜ IsRoundTable (now t) ⌝ }
-    ensures { λ r. ⌜ ((keys : KeysOf) (rand : Octets) → Started keys rand (now (w .entry)) c → r ≡ sets .under keys .f4 rand) ⌝ }
+pub fn f4(table: &[u32; 256], schedule: &[u32; 44], c: Challenge) -> [u8; 16]
+    requires { ⌜ IsRoundTable (now table) ⌝ }
+    ensures { λ r. ⌜ r ≡ outputsFrom (now (schedule .entry)) c .f4 ⌝ }
 {
     let set = c.set;
     let opc = c.opc;
-    let start = c.start;
+    let base = c.base;
     if set == 0 {
-        return test_set::left2(aes_words::to_octets(start));
+        return test_set::turned_left(aes_words::to_octets(base), 2);
     }
-    aes_words::to_octets(milenage::out4(t, w, opc, start))
+    aes_words::to_octets(milenage::out4(table, schedule, opc, base))
 }
 
 // AK*: f5* of RAND.
-pub fn f5s(t: &[u32; 256], w: &[u32; 44], c: Challenge) -> [u8; 6]
-    requires { ⌜ IsRoundTable (now t) ⌝ }
-    ensures { λ r. ⌜ ((keys : KeysOf) (rand : Octets) → Started keys rand (now (w .entry)) c → r ≡ sets .under keys .f5* rand) ⌝ }
+pub fn f5s(table: &[u32; 256], schedule: &[u32; 44], c: Challenge) -> [u8; 6]
+    requires { ⌜ IsRoundTable (now table) ⌝ }
+    ensures { λ r. ⌜ r ≡ outputsFrom (now (schedule .entry)) c .f5* ⌝ }
 {
     let set = c.set;
     let opc = c.opc;
-    let start = c.start;
+    let base = c.base;
     if set == 0 {
-        return octets::six(aes_words::to_octets(start), 3);
+        return octets::six(aes_words::to_octets(base), 3);
     }
-    octets::six(aes_words::to_octets(milenage::out5(t, w, opc, start)), 0)
+    let out5 = milenage::out5(table, schedule, opc, base);
+    octets::six(aes_words::to_octets(out5), 0)
 }
