@@ -62,7 +62,7 @@ fn answer_auts(
     let keys = auc.keys;
     let t = aes::round_table();
     let w = functions::schedule(keys);
-    let c = functions::start(&t, &w, keys, rand);
+    let c = functions::prepare(&t, &w, keys, rand);
     renew(&t, &w, c, auts, auc, n, rands, batch)
 }
 

@@ -5,7 +5,7 @@ ghost use Prim.Native.Nat.{_^_, _≤_, _<_};
 ghost use mathlib.Core.Path.{_≡_};
 ghost use Rattle.octets.specs.Octets.{Octets};
 ghost use Rattle.aes_tables.specs.RoundTable.{IsRoundTable};
-ghost use Rattle.functions.specs.Challenge.{Started};
+ghost use Rattle.functions.specs.Challenge.{Prepared};
 ghost use Rattle.functions.specs.Sets.{sets};
 ghost use Rattle.aka.specs.Functions.{Keys as KeysOf};
 ghost use Rattle.aka.specs.Sequence.{limit, width};
@@ -29,7 +29,7 @@ pub fn start_of(
 ) -> Start
     requires made { ⌜ IsRoundTable (now t) ⌝ }
     requires room { ⌜ (n ≤ 5) × (seqhe ≤ limit width) ⌝ }
-    ensures start { λ r. ⌜ ((keys : KeysOf) (rand : Octets) → Started keys rand (now (w .entry)) c → startOf r ≡ startFrom (sets .under keys) rand auts seqhe n) ⌝ }
+    ensures start { λ r. ⌜ ((keys : KeysOf) (rand : Octets) → Prepared keys rand (now (w .entry)) c → startOf r ≡ startFrom (sets .under keys) rand auts seqhe n) ⌝ }
     ensures room { λ r. ⌜ r .seq < 2 ^ 59 ⌝ }
 {
     let sqn = auts::sqn_ms(t, w, c, auts);

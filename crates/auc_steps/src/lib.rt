@@ -10,7 +10,7 @@ ghost use mathlib.Core.Path.{_≡_};
 ghost use lib.ListN.{length};
 ghost use Rattle.octets.specs.Octets.{Octets};
 ghost use Rattle.aes_tables.specs.RoundTable.{IsRoundTable};
-ghost use Rattle.functions.specs.Challenge.{keysOf, IsSchedule, Started};
+ghost use Rattle.functions.specs.Challenge.{keysOf, IsSchedule, Prepared};
 ghost use Rattle.aka.specs.Sequence.{limit, width};
 ghost use Rattle.auc_record.specs.Views.{aucOf, outcomeOf, answerOf};
 ghost use Rattle.auc_record.specs.Steps.{sentFrom, renewed};
@@ -67,7 +67,7 @@ pub fn renew(
     requires made { ⌜ IsRoundTable (now t) × IsSchedule (keysOf (auc .keys)) (now w) ⌝ }
     requires room { ⌜ (n ≤ 5) × (auc .seqhe ≤ limit width) × (auc .next < 32) ⌝ }
     requires lent { ⌜ (length (now rands) ≡ 16 * n) × (length (now batch) ≡ 72 * n) ⌝ }
-    ensures { λ r. ⌜ ((rand : Octets) → Started (keysOf (auc .keys)) rand (now (w .entry)) c → answerOf r (now (batch .exit)) ≡ renewed (aucOf auc) n (now (rands .entry)) (now (batch .entry)) rand auts) ⌝ }
+    ensures { λ r. ⌜ ((rand : Octets) → Prepared (keysOf (auc .keys)) rand (now (w .entry)) c → answerOf r (now (batch .exit)) ≡ renewed (aucOf auc) n (now (rands .entry)) (now (batch .entry)) rand auts) ⌝ }
 {
     let start = auc_starts::start_of(t, w, c, auts, auc.seqhe, n);
     let outcome = start.outcome;

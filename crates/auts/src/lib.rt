@@ -7,7 +7,7 @@ ghost use lib.Dec.{eqb};
 ghost use lib.ListN.{length};
 ghost use Rattle.octets.specs.Octets.{Octets};
 ghost use Rattle.aes_tables.specs.RoundTable.{IsRoundTable};
-ghost use Rattle.functions.specs.Challenge.{Started};
+ghost use Rattle.functions.specs.Challenge.{Prepared};
 ghost use Rattle.functions.specs.Sets.{sets};
 ghost use Rattle.aka.specs.Functions.{Keys as KeysOf};
 ghost use Rattle.aka.specs.Sequence.{limit, width};
@@ -30,7 +30,7 @@ pub fn in_range(seqhe: u64, seqms: u64, n: u8) -> bool
 // SQN_MS, which AUTS conceals with AK*: f5* of RAND.
 pub fn sqn_ms(t: &[u32; 256], w: &[u32; 44], c: Challenge, auts: [u8; 14]) -> [u8; 6]
     requires { ⌜ IsRoundTable (now t) ⌝ }
-    ensures { λ r. ⌜ ((keys : KeysOf) (rand : Octets) → Started keys rand (now (w .entry)) c → r ≡ sqnMsIn (sets .under keys) rand auts) ⌝ }
+    ensures { λ r. ⌜ ((keys : KeysOf) (rand : Octets) → Prepared keys rand (now (w .entry)) c → r ≡ sqnMsIn (sets .under keys) rand auts) ⌝ }
 {
     tokens::sqn_ms_in(auts, functions::f5s(t, w, c))
 }
@@ -44,10 +44,10 @@ pub fn mac_s_right(
     auts: [u8; 14],
 ) -> bool
     requires { ⌜ IsRoundTable (now t) ⌝ }
-    ensures { λ r. ⌜ ((keys : KeysOf) (rand : Octets) → Started keys rand (now (w .entry)) c → sqn ≡ sqnMsIn (sets .under keys) rand auts → r ≡ macSRight (sets .under keys) rand auts) ⌝ }
+    ensures { λ r. ⌜ ((keys : KeysOf) (rand : Octets) → Prepared keys rand (now (w .entry)) c → sqn ≡ sqnMsIn (sets .under keys) rand auts → r ≡ macSRight (sets .under keys) rand auts) ⌝ }
 {
     let mac = tokens::mac_s_in(auts);
-    let expected = mac_functions::f1s(t, w, c, sqn, [0; 2]);
+    let expected = functions::f1s(t, w, c, sqn, [0; 2]);
     tokens::same(mac, expected)
 }
 

@@ -36,7 +36,7 @@ fn put_at(t: &[u32; 256], w: &[u32; 44], s: Series, rands: &[u8], k: u8, batch: 
     let p = 16 * (k as usize);
     let rand = octets::sixteen(&rands[p..p + 16]);
     let sqn = tokens::sqn_octets(32 * (s.start + 1 + (k as u64)) + (s.next as u64));
-    let c = functions::start(t, w, keys, rand);
+    let c = functions::prepare(t, w, keys, rand);
     put_vector(t, w, c, sqn, amf, rand, batch, SIZE * (k as usize));
 }
 

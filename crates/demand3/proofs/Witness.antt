@@ -7,7 +7,8 @@ use mathlib.Core.Path.{_≡_, refl}
 use native.Mathlib.Omega.{arith}
 use lib.ListN.{set}
 use Rattle.octets.specs.Octets.{Octets, zeros, xor, equal, turnLeft, digits, spelt}
-use Rattle.functions.specs.Sets.{sets, testSet, testX}
+use Rattle.functions.specs.Sets.{sets, testOutputs, baseOf, outputs, outputsOf}
+use Rattle.functions.specs.SampleRun.{k, z, amf, autn, auts}
 use Rattle.functions.specs.declared.Keys.{Keys}
 use Rattle.aka.specs.Layout.{writeAutn, readAutn, writeAuts, readAuts, writeVector, readVector, joined}
 use Rattle.aka.specs.Usim.{challenge, verdictOn, judgement, answerWith, validUsim, sized, macRight, fresh, highest, lowestIndex, allWithin, makeAuts}
@@ -26,22 +27,16 @@ use Rattle.demand3.specs.Running.{Setting, Ran, settingOf, Conclusion}
 use Rattle.demand3.proofs.Running.{running}
 
 abbrev keys : Keys
-keys = record { set = 0; k = 0 ∷ 1 ∷ 2 ∷ 3 ∷ 4 ∷ 5 ∷ 6 ∷ 7 ∷ 8 ∷ 9 ∷ 10 ∷ 11 ∷ 12 ∷ 13 ∷ 14 ∷ 15 ∷ []; opc = zeros 16 }
+keys = record { set = 0; k = k; opc = z }
 
 abbrev usim : Usim
 usim = record { keys = keys; places = set (zeros 32) 0 1 }
-
-abbrev autn : Octets
-autn = 0x03 ∷ 0x04 ∷ 0x05 ∷ 0x06 ∷ 0x07 ∷ 0x28 ∷ 0x00 ∷ 0x01 ∷ 0x00 ∷ 0x01 ∷ 0x02 ∷ 0x03 ∷ 0x04 ∷ 0x25 ∷ 0x06 ∷ 0x06 ∷ []
-
-abbrev auts : Octets
-auts = 0x03 ∷ 0x04 ∷ 0x05 ∷ 0x06 ∷ 0x07 ∷ 0x28 ∷ 0x00 ∷ 0x01 ∷ 0x02 ∷ 0x03 ∷ 0x04 ∷ 0x25 ∷ 0x06 ∷ 0x07 ∷ []
 
 abbrev failure : card.Answer
 failure = record { verdict = Sync; usim = usim; res = zeros 8; ck = zeros 16; ik = zeros 16; auts = auts }
 
 abbrev aucWith : (seqhe next : ℕ) → Auc
-aucWith seqhe next = record { keys = keys; amf = 0 ∷ 1 ∷ []; seqhe = seqhe; next = next }
+aucWith seqhe next = record { keys = keys; amf = amf; seqhe = seqhe; next = next }
 
 abbrev renewal : centre.Answer
 renewal = record { outcome = Reset; n = 2; auc = aucWith 3 1 }
@@ -56,7 +51,7 @@ buffer = zeros 144
 abbrev lost : Setting
 lost = record {
   usim = usim;
-  rand = zeros 16;
+  rand = z;
   autn = autn;
   failure = failure;
   auc = aucWith 0 0;
@@ -64,15 +59,15 @@ lost = record {
   rands = rands;
   buffer = buffer;
   renewal = renewal;
-  batch = resync width sets (aucOf (aucWith 0 0)) 2 rands buffer (zeros 16) auts .batch;
+  batch = resync width sets (aucOf (aucWith 0 0)) 2 rands buffer z auts .batch;
 }
 
 ran : Ran lost
-unfolding sets testSet testX challenge verdictOn judgement answerWith validUsim sized macRight fresh highest lowestIndex allWithin makeAuts makeAutn writeAutn readAutn writeAuts readAuts xor equal digits spelt pairFrom pairWith validAuc auc.answerWith lentFor lentAll unlessRefused unlessPast inRange macSRight resyncOutcome resync batchFrom makeVector writeVector readVector joined turnLeft
+unfolding sets testOutputs baseOf outputs outputsOf challenge verdictOn judgement answerWith validUsim sized macRight fresh highest lowestIndex allWithin makeAuts makeAutn writeAutn readAutn writeAuts readAuts xor equal digits spelt pairFrom pairWith validAuc auc.answerWith lentFor lentAll unlessRefused unlessPast inRange macSRight resyncOutcome resync batchFrom makeVector writeVector readVector joined turnLeft
 ran = record { failure = refl; renewal = refl }
 
 premise : aka.Premise width sets (settingOf lost)
-unfolding sets testSet testX challenge verdictOn judgement answerWith validUsim sized macRight fresh highest lowestIndex allWithin makeAuts makeAutn writeAutn readAutn writeAuts readAuts xor equal digits spelt pairFrom pairWith validAuc turnLeft
+unfolding sets testOutputs baseOf outputs outputsOf challenge verdictOn judgement answerWith validUsim sized macRight fresh highest lowestIndex allWithin makeAuts makeAutn writeAutn readAutn writeAuts readAuts xor equal digits spelt pairFrom pairWith validAuc turnLeft
 premise = record {
   usim-valid = refl;
   usim-places = refl;

@@ -21,9 +21,9 @@ pub fn seven(t: &[u32; 256], keys: Keys, rand: [u8; 16], sqn: [u8; 6], amf: [u8;
     ensures { λ r. ⌜ Answers (sets .under (keysOf keys)) rand sqn amf r ⌝ }
 {
     let w = functions::schedule(keys);
-    let c = functions::start(t, &w, keys, rand);
-    let mac = mac_functions::f1(t, &w, c, sqn, amf);
-    let macs = mac_functions::f1s(t, &w, c, sqn, amf);
+    let c = functions::prepare(t, &w, keys, rand);
+    let mac = functions::f1(t, &w, c, sqn, amf);
+    let macs = functions::f1s(t, &w, c, sqn, amf);
     let both = functions::f2_f5(t, &w, c);
     let ck = functions::f3(t, &w, c);
     let ik = functions::f4(t, &w, c);

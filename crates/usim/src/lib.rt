@@ -11,7 +11,7 @@ ghost use mathlib.Core.Path.{_≡_};
 ghost use Prim.Native.Nat.{_<_, _^_};
 ghost use Rattle.octets.specs.Octets.{Octets};
 ghost use Rattle.aes_tables.specs.RoundTable.{IsRoundTable};
-ghost use Rattle.functions.specs.Challenge.{keysOf, Started};
+ghost use Rattle.functions.specs.Challenge.{keysOf, Prepared};
 ghost use Rattle.functions.specs.Sets.{sets};
 ghost use Rattle.aka.specs.Functions.{Keys as KeysOf};
 ghost use Rattle.aka.specs.Usim.{validUsim, sqnIn, macRight, judgement, challenge as challengeOf};
@@ -22,10 +22,10 @@ ghost use Rattle.usim_accept.specs.Steps.{Authentic, Answers};
 // Whether AUTN's MAC is f1 of SQN, RAND and AUTN's AMF.
 fn mac_right(t: &[u32; 256], w: &[u32; 44], c: Challenge, sqn: [u8; 6], autn: [u8; 16]) -> bool
     requires { ⌜ IsRoundTable (now t) ⌝ }
-    ensures { λ r. ⌜ ((keys : KeysOf) (rand : Octets) → Started keys rand (now (w .entry)) c → sqn ≡ sqnIn (sets .under keys) rand autn → r ≡ macRight (sets .under keys) rand autn) ⌝ }
+    ensures { λ r. ⌜ ((keys : KeysOf) (rand : Octets) → Prepared keys rand (now (w .entry)) c → sqn ≡ sqnIn (sets .under keys) rand autn → r ≡ macRight (sets .under keys) rand autn) ⌝ }
 {
     let mac = octets::eight(autn, 8);
-    let expected = mac_functions::f1(t, w, c, sqn, tokens::amf_in(autn));
+    let expected = functions::f1(t, w, c, sqn, tokens::amf_in(autn));
     tokens::same(mac, expected)
 }
 
@@ -51,7 +51,7 @@ fn judge_sqn(
 // First MAC, then freshness.
 fn judge(t: &[u32; 256], w: &[u32; 44], c: Challenge, usim: Usim, autn: [u8; 16]) -> Answer
     requires { ⌜ IsRoundTable (now t) × (validUsim width sets (usimOf usim) ≡ true) ⌝ }
-    ensures { λ r. ⌜ ((rand : Octets) → Started (keysOf (usim .keys)) rand (now (w .entry)) c → Answers (usimOf usim) rand autn (judgement width sets (usimOf usim) rand autn) r) ⌝ }
+    ensures { λ r. ⌜ ((rand : Octets) → Prepared (keysOf (usim .keys)) rand (now (w .entry)) c → Answers (usimOf usim) rand autn (judgement width sets (usimOf usim) rand autn) r) ⌝ }
 {
     let both = functions::f2_f5(t, w, c);
     let res = both.res;
@@ -71,7 +71,7 @@ fn authenticate(usim: Usim, rand: [u8; 16], autn: [u8; 16]) -> Answer
     let keys = usim.keys;
     let t = aes::round_table();
     let w = functions::schedule(keys);
-    let c = functions::start(&t, &w, keys, rand);
+    let c = functions::prepare(&t, &w, keys, rand);
     judge(&t, &w, c, usim, autn)
 }
 

@@ -5,7 +5,7 @@ use mathlib.Core.List.{List}
 use mathlib.Core.Path.{_≡_}
 use Rattle.octets.specs.Octets.{Octets, decode}
 use Rattle.functions.specs.declared.Challenge.{Challenge}
-use Rattle.functions.specs.Challenge.{Started}
+use Rattle.functions.specs.Challenge.{Prepared}
 use Rattle.functions.specs.Sets.{sets}
 use Rattle.aka.specs.Functions.{Keys}
 use Rattle.aka.specs.Usim.{Usim, Verdict, sqnIn, macRight, answerWith}
@@ -15,7 +15,7 @@ use Rattle.usim_record.specs.Views.{verdictOf, answerOf, sqnGiven, sqnDue}
 
 -- MAC is right, and SQN and RES are those of the challenge
 pub record Authentic (keys : Keys) (rand autn : Octets) (w : List ℕ) (c : Challenge) (n : ℕ) (r : Octets) : Type 0 where
-  pub started : Started keys rand w c
+  pub started : Prepared keys rand w c
   pub mac : macRight (sets .under keys) rand autn ≡ true
   pub sqn : n ≡ decode (sqnIn (sets .under keys) rand autn)
   pub fits : n < 2 ^ 48

@@ -6,7 +6,7 @@ use lib.Dec.{eqb}
 use lib.ListN.{length}
 use Rattle.octets.specs.Octets.{Octets}
 use Rattle.aes.specs.Cipher.{aes}
-use Rattle.opc.specs.Opc.{opc}
+use Rattle.milenage.specs.Opc.{opc}
 use Rattle.functions.specs.Sets.{sets}
 use Rattle.aka.specs.Layout.{keySize, amfSize, vectorSize, isPlace}
 use Rattle.aka.specs.Functions.{Keys}

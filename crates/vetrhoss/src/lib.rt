@@ -18,7 +18,7 @@ pub extern "C" fn vetrhoss_opc(k: &[u8], op: &[u8], opc: &mut [u8]) -> u64
     if opc.len() != 16 {
         return 3;
     }
-    let made = opc::derive(octets::sixteen(k), octets::sixteen(op));
+    let made = milenage::opc::derive(octets::sixteen(k), octets::sixteen(op));
     interface_parts::put(opc, &made);
     0
 }

@@ -6,7 +6,7 @@ ghost use mathlib.Core.Path.{_≡_};
 ghost use lib.ListN.{length, take};
 ghost use Rattle.octets.specs.Octets.{Octets};
 ghost use Rattle.aes_tables.specs.RoundTable.{IsRoundTable};
-ghost use Rattle.functions.specs.Challenge.{Started};
+ghost use Rattle.functions.specs.Challenge.{Prepared};
 ghost use Rattle.functions.specs.Sets.{sets};
 ghost use Rattle.aka.specs.Functions.{Keys as KeysOf};
 ghost use Rattle.aka.specs.Layout.{writeVector};
@@ -22,9 +22,9 @@ fn autn(
     amf: [u8; 2],
 ) -> [u8; 16]
     requires { ⌜ IsRoundTable (now t) ⌝ }
-    ensures { λ r. ⌜ ((keys : KeysOf) (rand : Octets) → Started keys rand (now (w .entry)) c → ak ≡ sets .under keys .f5 rand → r ≡ makeAutn (sets .under keys) sqn amf rand) ⌝ }
+    ensures { λ r. ⌜ ((keys : KeysOf) (rand : Octets) → Prepared keys rand (now (w .entry)) c → ak ≡ sets .under keys .f5 rand → r ≡ makeAutn (sets .under keys) sqn amf rand) ⌝ }
 {
-    let mac = mac_functions::f1(t, w, c, sqn, amf);
+    let mac = functions::f1(t, w, c, sqn, amf);
     tokens::autn(sqn, ak, amf, mac)
 }
 
@@ -69,7 +69,7 @@ pub fn put_vector(
     at: usize,
 )
     requires { ⌜ IsRoundTable (now t) × (at + 72 ≤ length (now batch)) ⌝ }
-    ensures { λ _. ⌜ ((keys : KeysOf) → Started keys rand (now (w .entry)) c → take (at + 72) (now (batch .exit)) ≡ take at (now (batch .entry)) ++ writeVector (makeVector (sets .under keys) sqn amf rand)) ⌝ }
+    ensures { λ _. ⌜ ((keys : KeysOf) → Prepared keys rand (now (w .entry)) c → take (at + 72) (now (batch .exit)) ≡ take at (now (batch .entry)) ++ writeVector (makeVector (sets .under keys) sqn amf rand)) ⌝ }
 {
     let both = functions::f2_f5(t, w, c);
     let xres = both.res;

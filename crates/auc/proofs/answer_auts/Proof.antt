@@ -6,7 +6,7 @@ use Rattle.auc.proofs.answer_auts.Tie as tie
 returns : tie.Need-returns
 returns c =
     let renewal = c .before .before in
-    renewal .renew .ensures _ (renewal .before .before .before .before .start .ensures)
+    renewal .renew .ensures _ (renewal .before .before .before .before .prepare .ensures)
 
 pub answer-auts-spec : {M : Type 1} → statement M
 answer-auts-spec =

@@ -5,7 +5,7 @@ use mathlib.Core.Path.{_≡_, refl, sym, ap, _∙_}
 use native.Mathlib.Omega.{arith}
 use borrow.Author.Tests.{not-true, not-false}
 use Rattle.octets.specs.Octets.{Octets, decode}
-use Rattle.functions.specs.Challenge.{Started}
+use Rattle.functions.specs.Challenge.{Prepared}
 use Rattle.functions.specs.Sets.{sets}
 use Rattle.aka.specs.Functions.{Keys}
 use Rattle.aka.specs.Auc.{inRange, macSRight, seqMsIn}
@@ -18,7 +18,7 @@ use Rattle.auc_starts.proofs.start_of.Tie as tie
 abbrev entry : tie.After-in-range → tie.Start
 entry c = c .before .before .before
 
-module _ (c : tie.After-in-range) (keys : Keys) (rand : Octets) (s : Started keys rand (entry c .args .w .now) (entry c .args .c)) where
+module _ (c : tie.After-in-range) (keys : Keys) (rand : Octets) (s : Prepared keys rand (entry c .args .w .now) (entry c .args .c)) where
   abbrev ms : ℕ
   ms = seqMsIn width (sets .under keys) rand (entry c .args .auts)
 

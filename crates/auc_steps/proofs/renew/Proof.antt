@@ -1,7 +1,7 @@
 -- `renew` goes on from its start. Assumes nothing.
 use mathlib.Core.Path.{_≡_, ap, _∙_}
 use Rattle.octets.specs.Octets.{Octets}
-use Rattle.functions.specs.Challenge.{keysOf, Started}
+use Rattle.functions.specs.Challenge.{keysOf, Prepared}
 use Rattle.auc_record.specs.Views.{aucOf}
 use Rattle.auc_record.specs.Steps.{renewed}
 use Rattle.auc_starts.specs.Starts.{startOf, goneOn}
@@ -14,7 +14,7 @@ abbrev entry : tie.After-start-of → tie.Start
 entry c = c .before .before .before
 
 -- what goes on from the start that was found
-gone : (c : tie.After-start-of) (rand : Octets) → Started (keysOf (entry c .args .auc .keys)) rand (entry c .args .w .now) (entry c .args .c) →
+gone : (c : tie.After-start-of) (rand : Octets) → Prepared (keysOf (entry c .args .auc .keys)) rand (entry c .args .w .now) (entry c .args .c) →
     let args = entry c .args in
     goneOn (aucOf (args .auc)) (args .n) (args .rands .now) (args .batch .now) (startOf (c .start-of .result))
     ≡ renewed (aucOf (args .auc)) (args .n) (args .rands .now) (args .batch .now) rand (args .auts)

@@ -4,6 +4,7 @@ use Rattle.octets.specs.Octets.{Octets, equal}
 use Rattle.functions.specs.Sets.{sets}
 use Rattle.aka.specs.Functions.{dummyAmf}
 use Rattle.aka.specs.Auc.{macSRight}
+use Rattle.functions.proofs.Outputs.{gives}
 use borrow.Author.Needs.{needs}
 use Rattle.auts.proofs.mac_s_right.Statement.{statement}
 use Rattle.auts.proofs.mac_s_right.Tie as tie
@@ -13,7 +14,7 @@ unfolding macSRight
 returns c = λ keys rand s e.
     c .same .ensures
     ∙ ap₂ equal (c .before .before .mac-s-in .ensures)
-    (c .before .f1s .ensures keys rand s ∙ ap (λ (sqn : Octets). sets .under keys .f1* sqn rand dummyAmf) e)
+    (c .before .f1s .ensures ∙ gives s .f1* _ _ ∙ ap (λ (sqn : Octets). sets .under keys .f1* sqn rand dummyAmf) e)
 
 pub mac-s-right-spec : {M : Type 1} → statement M
 mac-s-right-spec =

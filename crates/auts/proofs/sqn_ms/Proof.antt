@@ -2,12 +2,13 @@
 use mathlib.Core.Path.{ap, _∙_}
 use Rattle.octets.specs.Octets.{xor}
 use Rattle.aka.specs.Layout.{readAuts}
+use Rattle.functions.proofs.Outputs.{gives}
 use borrow.Author.Needs.{needs}
 use Rattle.auts.proofs.sqn_ms.Statement.{statement}
 use Rattle.auts.proofs.sqn_ms.Tie as tie
 
 returns : tie.Need-returns
-returns c = λ keys rand s. c .sqn-ms-in .ensures ∙ ap (xor (readAuts (c .before .before .args .auts) .concealed)) (c .before .f5s .ensures keys rand s)
+returns c = λ keys rand s. c .sqn-ms-in .ensures ∙ ap (xor (readAuts (c .before .before .args .auts) .concealed)) (c .before .f5s .ensures ∙ gives s .f5*)
 
 pub sqn-ms-spec : {M : Type 1} → statement M
 sqn-ms-spec =

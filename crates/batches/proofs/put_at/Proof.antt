@@ -29,7 +29,7 @@ returns c =
     let p = 16 * args .k in
     let whole : p + 16 - p ≡ 16 = omega arith in
     let rand : taken .sixteen .result ≡ randAt (args .rands .now) (args .k) = taken .sixteen .ensures ∙ ap (λ (m : ℕ). take m (drop p (args .rands .now))) whole in
-    put .put-vector .ensures keys (started .start .ensures)
+    put .put-vector .ensures keys (started .prepare .ensures)
     ∙ ap₂ (λ (x y : Octets). take (72 * args .k) (args .batch .now) ++ writeVector (makeVector (sets .under keys) x (args .s .amf) y)) (numbered .sqn-octets .ensures) rand
 
 pub put-at-spec : {M : Type 1} → statement M

@@ -1,5 +1,7 @@
 -- `seven` gives the seven outputs of the keys. Assumes nothing.
+use mathlib.Core.Path.{_∙_}
 use Rattle.functions.specs.Challenge.{keysOf}
+use Rattle.functions.proofs.Outputs.{gives}
 use borrow.Author.Needs.{needs}
 use Rattle.function_outputs.proofs.seven.Statement.{statement}
 use Rattle.function_outputs.proofs.seven.Tie as tie
@@ -15,15 +17,15 @@ returns c =
     let begun = first .before .before in
     let args = begun .before .before .before .args in
     let keys = keysOf (args .keys) in
-    let is = begun .start .ensures in
+    let is = begun .prepare .ensures in
     record {
-      mac = first .f1 .ensures keys (args .rand) is;
-      macs = second .f1s .ensures keys (args .rand) is;
-      res = pair .f2-f5 .ensures keys (args .rand) is .0;
-      ck = third .f3 .ensures keys (args .rand) is;
-      ik = fourth .f4 .ensures keys (args .rand) is;
-      ak = pair .f2-f5 .ensures keys (args .rand) is .1;
-      aks = last .f5s .ensures keys (args .rand) is;
+      mac = first .f1 .ensures ∙ gives is .f1 _ _;
+      macs = second .f1s .ensures ∙ gives is .f1* _ _;
+      res = pair .f2-f5 .ensures .0 ∙ gives is .f2;
+      ck = third .f3 .ensures ∙ gives is .f3;
+      ik = fourth .f4 .ensures ∙ gives is .f4;
+      ak = pair .f2-f5 .ensures .1 ∙ gives is .f5;
+      aks = last .f5s .ensures ∙ gives is .f5*;
     }
 
 pub seven-spec : {M : Type 1} → statement M

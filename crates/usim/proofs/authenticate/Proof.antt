@@ -4,7 +4,7 @@ use Rattle.usim.proofs.authenticate.Statement.{statement}
 use Rattle.usim.proofs.authenticate.Tie as tie
 
 returns : tie.Need-returns
-returns c = c .judge .ensures _ (c .before .before .before .start .ensures)
+returns c = c .judge .ensures _ (c .before .before .before .prepare .ensures)
 
 pub authenticate-spec : {M : Type 1} → statement M
 authenticate-spec =

@@ -4,12 +4,13 @@ use mathlib.Core.Path.{_≡_, refl, sym, ap, _∙_}
 use native.Mathlib.Omega.{arith}
 use borrow.Author.Tests.{not-true, not-false}
 use Rattle.octets.specs.Octets.{Octets, xor, decode}
-use Rattle.functions.specs.Challenge.{keysOf, Started}
+use Rattle.functions.specs.Challenge.{keysOf, Prepared}
 use Rattle.functions.specs.Sets.{sets}
 use Rattle.aka.specs.Layout.{readAutn}
 use Rattle.aka.specs.Usim.{macFailure, sqnIn, judgement, answerWith}
 use Rattle.aka.specs.Sequence.{width}
 use Rattle.usim_record.specs.Views.{usimOf}
+use Rattle.functions.proofs.Outputs.{gives}
 use borrow.Author.Needs.{needs}
 use Rattle.usim.proofs.judge.Statement.{statement}
 use Rattle.usim.proofs.judge.Tie as tie
@@ -17,11 +18,11 @@ use Rattle.usim.proofs.judge.Tie as tie
 abbrev entry : tie.After-sqn-in → tie.Start
 entry c = c .before .before .before .before
 
-sqn-is : (c : tie.After-sqn-in) (rand : Octets) → Started (keysOf (entry c .args .usim .keys)) rand (entry c .args .w .now) (entry c .args .c)
+sqn-is : (c : tie.After-sqn-in) (rand : Octets) → Prepared (keysOf (entry c .args .usim .keys)) rand (entry c .args .w .now) (entry c .args .c)
     → c .sqn-in .result ≡ sqnIn (sets .under (keysOf (entry c .args .usim .keys))) rand (entry c .args .autn)
 sqn-is c rand s =
     c .sqn-in .ensures
-    ∙ ap (xor (readAutn (entry c .args .autn) .concealed)) (c .before .before .before .f2-f5 .ensures (keysOf (entry c .args .usim .keys)) rand s .1)
+    ∙ ap (xor (readAutn (entry c .args .autn) .concealed)) (c .before .before .before .f2-f5 .ensures .1 ∙ gives s .f5)
 
 returns : tie.Need-returns
 unfolding judgement answerWith
@@ -46,7 +47,7 @@ returns-2 c = λ rand s.
       mac = sym (judged .mac-right .ensures keys rand s sqn) ∙ not-false _ (c .before .before .if1 .left);
       sqn = c .before .sqn-number .ensures .0 ∙ ap decode sqn;
       fits = c .before .sqn-number .ensures .1;
-      res = judged .before .before .before .before .f2-f5 .ensures keys rand s .0;
+      res = judged .before .before .before .before .f2-f5 .ensures .0 ∙ gives s .f2;
     })
 
 pub judge-spec : {M : Type 1} → statement M

@@ -4,6 +4,7 @@ use Rattle.octets.specs.Octets.{Octets, equal}
 use Rattle.functions.specs.Sets.{sets}
 use Rattle.aka.specs.Layout.{readAutn}
 use Rattle.aka.specs.Usim.{macRight}
+use Rattle.functions.proofs.Outputs.{gives}
 use borrow.Author.Needs.{needs}
 use Rattle.usim.proofs.mac_right.Statement.{statement}
 use Rattle.usim.proofs.mac_right.Tie as tie
@@ -13,7 +14,7 @@ unfolding readAutn macRight
 returns c = λ keys rand s e.
     c .same .ensures
     ∙ ap₂ equal (c .before .before .before .eight .ensures)
-    (c .before .f1 .ensures keys rand s ∙ ap₂ (λ (sqn amf : Octets). sets .under keys .f1 sqn rand amf) e (c .before .before .amf-in .ensures))
+    (c .before .f1 .ensures ∙ gives s .f1 _ _ ∙ ap₂ (λ (sqn amf : Octets). sets .under keys .f1 sqn rand amf) e (c .before .before .amf-in .ensures))
 
 pub mac-right-spec : {M : Type 1} → statement M
 mac-right-spec =

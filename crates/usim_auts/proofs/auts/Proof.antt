@@ -9,6 +9,7 @@ use Rattle.aka.specs.Usim.{sqnMs, makeAuts}
 use Rattle.aka.proofs.Places.{within}
 use Rattle.aka.proofs.Verdicts.{valid-parts}
 use Rattle.usim_record.specs.Views.{usimOf}
+use Rattle.functions.proofs.Outputs.{gives}
 use borrow.Author.Needs.{needs}
 use Rattle.usim_auts.proofs.auts.Statement.{statement}
 use Rattle.usim_auts.proofs.auts.Tie as tie
@@ -27,7 +28,7 @@ returns c = λ keys rand s.
     c .auts .ensures
     ∙ ap₂ (λ (x y : Octets). writeAuts (record { concealed = x; mac = y }))
     (ap₂ xor sqn (c .before .before .ak-star .ensures keys rand s))
-    (c .before .f1s .ensures keys rand s ∙ ap (λ (x : Octets). sets .under keys .f1* x rand dummyAmf) sqn)
+    (c .before .f1s .ensures ∙ gives s .f1* _ _ ∙ ap (λ (x : Octets). sets .under keys .f1* x rand dummyAmf) sqn)
 
 pub auts-spec : {M : Type 1} → statement M
 auts-spec =

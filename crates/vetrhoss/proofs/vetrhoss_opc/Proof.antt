@@ -3,7 +3,7 @@ use mathlib.Core.Path.{refl, ap, ap₂, _∙_}
 use borrow.Author.Tests.{eq-eqb, ne-eqb}
 use Rattle.octets.specs.Octets.{Octets}
 use Rattle.aes.specs.Cipher.{aes}
-use Rattle.opc.specs.Opc.{opc}
+use Rattle.milenage.specs.Opc.{opc}
 use Rattle.vetrhoss.specs.Interface.{filledOf, opcCall}
 use borrow.Author.Needs.{needs}
 use Rattle.vetrhoss.proofs.vetrhoss_opc.Statement.{statement}
