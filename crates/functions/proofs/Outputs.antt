@@ -11,7 +11,7 @@ use Rattle.aes.specs.Cipher.{cipher, aes}
 use Rattle.aka.specs.Functions.{Keys}
 use Rattle.functions.specs.declared.Challenge.{Challenge}
 use Rattle.functions.specs.Sets.{Outputs, testOutputs, milenageOutputs, baseOf, outputs, outputsOf, sets}
-use Rattle.functions.specs.Challenge.{scheduleOf, outputsFrom, Prepared, Gives}
+use Rattle.functions.specs.Challenge.{scheduleOf, outputsFrom, Prepared, PreparedLaw}
 
 -- an output, by set
 module _ (schedule : List ℕ) (c : Challenge) {A : Type 0} (f : Outputs → A) where
@@ -39,7 +39,7 @@ module _ {keys : Keys} {rand : Octets} {schedule : List ℕ} {c : Challenge} (p 
       ∙ ap₂ (λ (opc base : Octets). outputs (keys .set) (cipher schedule) opc base) (p .opc) (p .base)
       ∙ enciphered (eqb (keys .set) 0) refl (keys .opc) (baseOf keys rand)
 
-  pub gives : Gives keys rand schedule c
+  pub gives : PreparedLaw keys rand schedule c
   unfolding sets
   gives = record {
     f1 = λ sqn amf. ap (λ (o : Outputs). o .f1 sqn amf) same;

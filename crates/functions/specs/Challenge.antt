@@ -39,7 +39,7 @@ pub record Prepared (keys : aka.Keys) (rand : Octets) (schedule : List ℕ) (c :
   pub under : IsSchedule keys schedule
 
 -- the law of a prepared challenge: what it gives are the functions of the family
-pub record Gives (keys : aka.Keys) (rand : Octets) (schedule : List ℕ) (c : Challenge) : Type 0 where
+pub record PreparedLaw (keys : aka.Keys) (rand : Octets) (schedule : List ℕ) (c : Challenge) : Type 0 where
   pub f1 : (sqn amf : Octets) → outputsFrom schedule c .f1 sqn amf ≡ sets .under keys .f1 sqn rand amf
   pub f1* : (sqn amf : Octets) → outputsFrom schedule c .f1* sqn amf ≡ sets .under keys .f1* sqn rand amf
   pub f2 : outputsFrom schedule c .f2 ≡ sets .under keys .f2 rand
