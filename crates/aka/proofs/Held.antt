@@ -3,7 +3,7 @@ use Prim.Native.Nat.{ℕ, zero, suc, _+_, _-_, _≤_}
 use mathlib.Core.Bool.{true, and-eq-true-iff}
 use mathlib.Core.List.{[], _∷_, _++_}
 use mathlib.Core.Logic.{_↔_}
-use mathlib.Core.Path.{_≡_, refl, sym, ap, _∙_}
+use mathlib.Core.Path.{_≡_, refl, sym, ap, ap₂, _∙_}
 use native.Mathlib.Omega.{arith}
 use borrow.Author.Tests.{eqb-true, eq-eqb}
 use lib.Dec.{eqb}
@@ -22,6 +22,13 @@ all-zeros (suc n) = all-zeros n
 
 pub length-zeros : (n : ℕ) → length (zeros n) ≡ n
 length-zeros n = length-replicate {A = ℕ} n 0
+
+pub zeros-are : (a : Octets) → allZero a ≡ true → a ≡ zeros (length a)
+unfolding allZero
+zeros-are [] h = refl
+zeros-are (x ∷ a) h =
+    let both = and-eq-true-iff (eqb x 0) (allZero a) .0 h in
+    ap₂ (λ (y : ℕ) (l : Octets). y ∷ l) (eqb-true x 0 (both .0)) (zeros-are a (both .1))
 
 pub zero-append : (a b : Octets) → allZero a ≡ true → allZero b ≡ true → allZero (a ++ b) ≡ true
 unfolding allZero
@@ -50,7 +57,9 @@ each-zero (x ∷ a) h = rw (eq-eqb x 0 (h 0)) (each-zero a (λ i. h (suc i)))
 -- from a place on
 pub zero-from : (n : ℕ) (a : Octets) → (allZero (drop n a) ≡ true) ↔ ((i : ℕ) → n ≤ i → getD a i 0 ≡ 0)
 zero-from n a = (
-  λ h i le. let at : n + (i - n) ≡ i = omega arith in ap (λ (j : ℕ). getD a j 0) (sym at) ∙ sym (getD-drop n a (i - n) 0) ∙ zero-each (drop n a) h (i - n),
+  λ h i le.
+      let at : n + (i - n) ≡ i = omega arith in
+      ap (λ (j : ℕ). getD a j 0) (sym at) ∙ sym (getD-drop n a (i - n) 0) ∙ zero-each (drop n a) h (i - n),
   λ h. each-zero (drop n a) (λ i. getD-drop n a i 0 ∙ h (n + i) (omega arith)),
 )
 
@@ -67,33 +76,36 @@ part-take start size n a h le =
     sym (part-before start size (take n a) (drop n a) fits) ∙ ap (part start size) (take-append-drop n a)
 
 -- a batch written behind the octets before `n`
-abbrev pub written : (n : ℕ) (batch places : Octets) → Octets
-written n batch places = take n places ++ batch ++ drop (n + length batch) places
+abbrev pub written : (n : ℕ) (batch queue : Octets) → Octets
+written n batch queue = take n queue ++ batch ++ drop (n + length batch) queue
 
-module _ (n : ℕ) (batch places : Octets) (room : n + length batch ≤ length places) where
-  pub length-front : length (take n places) ≡ n
+module _ (n : ℕ) (batch queue : Octets) (room : n + length batch ≤ length queue) where
+  pub length-front : length (take n queue) ≡ n
   length-front = simp length-take (omega arith)
 
-  pub length-head : length (take n places ++ batch) ≡ n + length batch
-  length-head = length-append (take n places) batch ∙ ap (λ (k : ℕ). k + length batch) length-front
+  pub length-head : length (take n queue ++ batch) ≡ n + length batch
+  length-head = length-append (take n queue) batch ∙ ap (λ (k : ℕ). k + length batch) length-front
 
-  pub length-written : length (written n batch places) ≡ length places
-  length-written = length-append (take n places ++ batch) (drop (n + length batch) places) ∙ rw (length-head, length-drop (n + length batch) places) (omega arith)
+  pub length-written : length (written n batch queue) ≡ length queue
+  length-written =
+      length-append (take n queue ++ batch) (drop (n + length batch) queue)
+      ∙ rw (length-head, length-drop (n + length batch) queue) (omega arith)
 
-  pub written-before : (start size : ℕ) → start + size ≤ n → part start size (written n batch places) ≡ part start size places
+  pub written-before : (start size : ℕ) → start + size ≤ n → part start size (written n batch queue) ≡ part start size queue
   written-before start size h =
-      part-before start size (take n places ++ batch) (drop (n + length batch) places) (rw length-head (omega arith))
-      ∙ part-before start size (take n places) batch (rw length-front (omega arith))
-      ∙ part-take start size n places h (omega arith)
+      part-before start size (take n queue ++ batch) (drop (n + length batch) queue) (rw length-head (omega arith))
+      ∙ part-before start size (take n queue) batch (rw length-front (omega arith))
+      ∙ part-take start size n queue h (omega arith)
 
-  pub written-behind : (start size : ℕ) → start + size ≤ length batch → part (n + start) size (written n batch places) ≡ part start size batch
+  pub written-behind : (start size : ℕ) → start + size ≤ length batch
+      → part (n + start) size (written n batch queue) ≡ part start size batch
   written-behind start size h =
-      part-before (n + start) size (take n places ++ batch) (drop (n + length batch) places) (rw length-head (omega arith))
-      ∙ past (take n places) batch n start size length-front
+      part-before (n + start) size (take n queue ++ batch) (drop (n + length batch) queue) (rw length-head (omega arith))
+      ∙ past (take n queue) batch n start size length-front
 
-  pub written-rest : drop (n + length batch) (written n batch places) ≡ drop (n + length batch) places
-  written-rest = drop-at (take n places ++ batch) (drop (n + length batch) places) (n + length batch) length-head
+  pub written-rest : drop (n + length batch) (written n batch queue) ≡ drop (n + length batch) queue
+  written-rest = drop-at (take n queue ++ batch) (drop (n + length batch) queue) (n + length batch) length-head
 
   -- what was zero behind `n` is zero behind the batch
-  pub written-zero : allZero (drop n places) ≡ true → allZero (drop (n + length batch) (written n batch places)) ≡ true
-  written-zero h = rw (written-rest, ← drop-drop (length batch) n places) (zero-drop (length batch) (drop n places) h)
+  pub written-zero : allZero (drop n queue) ≡ true → allZero (drop (n + length batch) (written n batch queue)) ≡ true
+  written-zero h = rw (written-rest, ← drop-drop (length batch) n queue) (zero-drop (length batch) (drop n queue) h)

@@ -1,4 +1,3 @@
-pub mod VlrWitnesses
 pub mod Layouts
 pub mod Sequence
 pub mod Places
@@ -7,6 +6,7 @@ pub mod Verdicts
 pub mod Failures
 pub mod Pairs
 pub mod Held
+pub mod VlrRecords
 pub mod Replies
 pub mod Steps
 pub mod Batches
@@ -15,6 +15,8 @@ pub mod UsimLaws
 pub mod AucLaws
 pub mod VlrLaws
 pub mod OrderOfUse
+pub mod VlrWitnesses
+pub mod ShutOut
 pub mod Rising
 pub mod Demand3
 pub mod Table

@@ -1,29 +1,32 @@
--- The order of use at one VLR, proved: an invariant that each call keeps. `low` is the position of the oldest vector held: those before it are
--- gone, those from it on are held. Assumes nothing.
+-- The order of use at one VLR, proved from the laws of its answers (`VlrLaws`) and not from its definitions: an invariant, `Agrees`, that
+-- each call keeps. Assumes nothing.
 use Prim.Native.Nat.{ℕ, zero, suc, _+_, _-_, _*_, _≤_, _<_}
 use mathlib.Core.Bool.{Bool, true, false, _&&_, _||_, not, cond, true≢false}
-use mathlib.Core.List.{List, [], _∷_, _++_, append-assoc}
-use mathlib.Core.Logic.{_⊎_, ⊎-elim}
+use mathlib.Core.List.{List, [], _∷_, _++_}
+use mathlib.Core.Logic.{_⊎_, _↔_, ⊎-elim}
 use mathlib.Core.Option.{Option, none, some}
 use mathlib.Core.Path.{_≡_, refl, sym, ap, ap₂, _∙_, subst, subst₂}
 use native.Mathlib.Nat.{suc-add, eq-or-lt-of-le}
 use native.Mathlib.Omega.{arith}
-use borrow.Author.Tests.{le-leb, lt-leb, eq-eqb, ne-eqb}
-use lib.Dec.{eqb, leb}
-use lib.ListN.{length, take, drop, length-drop, length-append, take-append-drop, drop-of-length-le, replicate-append-replicate}
-use lib.Seq.{take-at, drop-at, drop-drop, drop-append-le, take-append-le}
-use Rattle.octets.specs.Octets.{Octets, zeros}
-use Rattle.octets.proofs.Parts.{length-part}
-use Rattle.octets.proofs.Strings.{equal-true}
-use Rattle.aka.specs.Layout.{readVector}
-use Rattle.aka.specs.Vlr.{Vlr, VlrAnswer, State, idle, asked, resyncing, passed, cause, refusalOf, mostHeld, placeSize, newVlr, validVlr, added, taken, moved, request, resRight, judged, withAuts}
+use borrow.Author.Tests.{ltb-true, ltb-false, le-leb, lt-leb, eq-eqb, ne-eqb, eqb-true, eqb-false}
+use lib.Dec.{eqb, ltb, leb}
+use lib.ListN.{length, take, drop, length-append, length-drop, take-append-drop}
+use lib.Seq.{drop-drop, take-add}
+use Rattle.octets.specs.Octets.{Octets, zeros, part}
+use Rattle.octets.proofs.Absurd.{zero-not-one}
+use Rattle.octets.proofs.Parts.{past}
+use Rattle.aka.specs.Layout.{Vector, readVector}
+use Rattle.aka.specs.Vlr.{Vlr, VlrAnswer, State, refusalOf, mostHeld, placeSize, noVector, newVlr, allZero, validVlr}
+use Rattle.aka.specs.Vlr as node
 use Rattle.aka.specs.Calls.{Call, reply, store, renew, ask, again, answer, sync, reject, timeout, abandon}
 use Rattle.aka.specs.Demand3.{Each}
-use Rattle.aka.specs.VlrLaws.{placeAt, Shaped}
-use Rattle.aka.specs.OrderOfUse.{History, nothingYet, isIn, isUnused, unusedFrom, unused, oldest, vectorsAt, stores, requests, ends, adds, isTaken, stepOf, steps, Rising, GivesRand, GivesAutn, GivesKeys, Gives, Due, Outstanding, Keeps, Holds, Agrees, OrderOfUse}
-use Rattle.aka.proofs.Held.{length-zeros, part-before, written}
-use Rattle.aka.proofs.Replies.{refusal, unrefused, refused-as, taken-as, number-zero, number-is, Passes, passes}
-use Rattle.aka.proofs.VlrLaws.{valid-true, true-valid, new-valid, moved-valid, leaves-valid, laws}
+use Rattle.aka.specs.VlrLaws.{placeAt, Shaped, termsOf, Due, given, nothing, requestOf, Left, Stored, Renewed, Asks, Does, VlrLaws}
+use Rattle.aka.specs.OrderOfUse.{Phase, idle, asked, resyncing, History, nothingYet, isIn, isUnused, unusedFrom, unused, oldest}
+use Rattle.aka.specs.OrderOfUse.{unanswered, enters, stores, requests, adds, Handled, isTaken, after, stateOf, vectorsAt, outOf}
+use Rattle.aka.specs.OrderOfUse.{recordOf, OfVector, Gives, Rising, Meets, InOrder, answers, OrderOfUse}
+use Rattle.aka.proofs.Held.{zeros-are, part-before}
+use Rattle.aka.proofs.VlrRecords.{valid-true, true-valid, new-valid, new-shaped}
+use Rattle.aka.proofs.VlrLaws.{laws}
 
 -- ---- lists
 
@@ -46,30 +49,37 @@ unfolding upFrom
 first-up p zero h = absurd (omega arith)
 first-up p (suc n) h = refl
 
--- the vectors from a position to the last
-vectors-up : (stored : Octets) (n p : ℕ) → length stored ≡ placeSize * (p + n) → vectorsAt stored (upFrom p n) ≡ drop (placeSize * p) stored
+-- ---- places
+
+-- the first n places of a queue are the vectors stored from a position on
+held-are : (stored queue : Octets) (n low : ℕ) → ((k : ℕ) → k < n → placeAt queue k ≡ placeAt stored (low + k))
+    → take (placeSize * n) queue ≡ vectorsAt stored (upFrom low n)
 unfolding upFrom vectorsAt
-vectors-up stored zero p h = let all : length stored ≤ placeSize * p = omega arith in sym (drop-of-length-le stored all)
-vectors-up stored (suc n) p h =
-    let rest : vectorsAt stored (upFrom (suc p) n) ≡ drop (placeSize * suc p) stored = vectors-up stored n (suc p) (omega arith) in
-    let at : placeSize * suc p ≡ placeSize * p + placeSize = omega arith in
-    ap (λ (x : Octets). placeAt stored p ++ x) (rest ∙ ap (λ (k : ℕ). drop k stored) at ∙ sym (drop-drop placeSize (placeSize * p) stored))
-    ∙ take-append-drop placeSize (drop (placeSize * p) stored)
+held-are stored queue zero low each = refl
+held-are stored queue (suc n) low each =
+    let first : placeAt queue 0 ≡ placeAt stored (low + 0) = each 0 (omega arith) in
+    let size : placeSize * suc n ≡ placeSize + placeSize * n = omega arith in
+    let here : low + 0 ≡ low = omega arith in
+    ap (λ (k : ℕ). take k queue) size
+    ∙ take-add placeSize (placeSize * n) queue
+    ∙ ap₂ (λ (x y : Octets). x ++ y)
+    (first ∙ ap (placeAt stored) here)
+    (held-are stored (drop placeSize queue) n (suc low) (λ k lt.
+    let at : placeSize + placeSize * k ≡ placeSize * suc k = omega arith in
+    let next : low + suc k ≡ suc low + k = omega arith in
+    ap (take placeSize) (drop-drop (placeSize * k) placeSize queue ∙ ap (λ (m : ℕ). drop m queue) at)
+    ∙ each (suc k) (omega arith)
+    ∙ ap (placeAt stored) next))
 
-drop-zeros : (m n : ℕ) → drop m (zeros n) ≡ zeros (n - m)
-drop-zeros zero n = let same : n ≡ n - 0 = omega arith in ap zeros same
-drop-zeros (suc m) zero = let same : 0 ≡ 0 - suc m = omega arith in ap zeros same
-drop-zeros (suc m) (suc n) = let same : n - m ≡ suc n - suc m = omega arith in drop-zeros m n ∙ ap zeros same
+-- of what is stored, the batch behind it and the vectors before it
+module _ (stored batch : Octets) (total : ℕ) (size : length stored ≡ placeSize * total) where
+  behind-stored : (j : ℕ) → placeAt batch j ≡ placeAt (stored ++ batch) (total + j)
+  behind-stored j =
+      let at : placeSize * total + placeSize * j ≡ placeSize * (total + j) = omega arith in
+      sym (past stored batch (placeSize * total) (placeSize * j) placeSize size) ∙ ap (λ (m : ℕ). part m placeSize (stored ++ batch)) at
 
-more-zeros : (x : Octets) (m n k : ℕ) → m + n ≡ k → x ++ zeros m ++ zeros n ≡ x ++ zeros k
-more-zeros x m n k e = append-assoc x (zeros m) (zeros n) ∙ ap (λ (y : Octets). x ++ y) (replicate-append-replicate m n 0 ∙ ap zeros e)
-
--- a batch written behind octets that zeros follow
-written-is : (n k : ℕ) (front batch : Octets) → length front ≡ n → written n batch (front ++ zeros k) ≡ front ++ batch ++ zeros (k - length batch)
-written-is n k front batch h =
-    ap₂ (λ (x y : Octets). x ++ batch ++ y)
-    (take-at front (zeros k) n h)
-    (sym (drop-drop (length batch) n (front ++ zeros k)) ∙ ap (drop (length batch)) (drop-at front (zeros k) n h) ∙ drop-zeros (length batch) k)
+  before-batch : (p : ℕ) → p < total → placeAt stored p ≡ placeAt (stored ++ batch) p
+  before-batch p lt = sym (part-before (placeSize * p) placeSize stored batch (omega arith))
 
 -- ---- which positions are unused
 
@@ -89,393 +99,336 @@ skip h (suc gone) left p other =
 all-unused : (h : History) (n p : ℕ) → ((q : ℕ) → p ≤ q → isUnused h q ≡ true) → unusedFrom h p n ≡ upFrom p n
 unfolding unusedFrom upFrom
 all-unused h zero p each = refl
-all-unused h (suc n) p each = rw (each p (omega arith)) (ap (λ (l : List ℕ). p ∷ l) (all-unused h n (suc p) (λ q a. each q (omega arith))))
-
-unused-up : (h : History) (low n : ℕ) → low + n ≡ h .total → ((p : ℕ) → p < low → isUnused h p ≡ false) → ((p : ℕ) → low ≤ p → isUnused h p ≡ true)
-    → unused h ≡ upFrom low n
-unused-up h low n sum gone waiting =
-    let here : 0 + low ≡ low = omega arith in
-    ap (unusedFrom h 0) (sym sum)
-    ∙ skip h low n 0 (λ q le lt. gone q (omega arith))
-    ∙ ap (λ (p : ℕ). unusedFrom h p n) here
-    ∙ all-unused h n low waiting
+all-unused h (suc n) p each =
+    rw (each p (omega arith)) (ap (λ (l : List ℕ). p ∷ l) (all-unused h n (suc p) (λ q a. each q (omega arith))))
 
 not-in : (p : ℕ) (l : List ℕ) → Each (λ q. q < p) l → isIn p l ≡ false
 unfolding isIn
 not-in p [] e = refl
 not-in p (q ∷ l) e = rw (ne-eqb p q (λ same. let lt = e .0 in omega arith)) (not-in p l (e .1))
 
-not-passed : cause 2 ≡ passed → ⊥
-not-passed e = let z : _≡_ {A = ℕ} 0 1 = cc in omega arith
-
-not-idle : idle ≡ asked → ⊥
-not-idle e = let z : _≡_ {A = ℕ} 0 1 = cc in omega arith
-
-not-resyncing : resyncing ≡ asked → ⊥
-not-resyncing e = let z : _≡_ {A = ℕ} 0 1 = cc in omega arith
-
 -- ---- the invariant
 
-record Stands (low : ℕ) (h : History) (vlr : Vlr) : Type 0 where
-  pub valid : validVlr vlr ≡ true
+-- the vector whose request is unanswered has been stored
+abbrev Known : (total : ℕ) → Phase → Type 0
+Known total idle = Unit {0}
+Known total (asked p) = p < total
+Known total resyncing = Unit {0}
+
+-- `low` is the position of the oldest vector held: those before it are gone, those from it on are held
+pub record Agrees (h : History) (vlr : Vlr) : Type 0 where
+  pub low : ℕ
   pub meets : low + vlr .held ≡ h .total
   pub size : length (h .stored) ≡ placeSize * h .total
-  pub octets : vlr .places ≡ drop (placeSize * low) (h .stored) ++ zeros (placeSize * (mostHeld - vlr .held))
-  pub outstanding : Outstanding h (h .pending) vlr
+  pub valid : validVlr vlr ≡ true
+  pub shaped : Shaped vlr
+  pub places : (k : ℕ) → k < vlr .held → placeAt (vlr .queue) k ≡ placeAt (h .stored) (low + k)
+  pub state : vlr .state ≡ stateOf (h .phase)
+  pub out : vlr .out ≡ outOf (h .stored) (h .phase)
+  pub known : Known (h .total) (h .phase)
   pub rising : Rising (h .requested)
   pub gone : (p : ℕ) → p < low → isUnused h p ≡ false
   pub waiting : (p : ℕ) → low ≤ p → isUnused h p ≡ true
   pub earlier : Each (λ q. q < low) (h .requested)
 
-module _ (low : ℕ) (h : History) (vlr : Vlr) (s : Stands low h vlr) where
-  unused-is : unused h ≡ upFrom low (vlr .held)
-  unused-is = unused-up h low (vlr .held) (s .meets) (s .gone) (s .waiting)
-
-  keeps : Keeps h vlr
-  keeps = record {
-    valid = s .valid;
-    count = sym (ap length unused-is ∙ length-up low (vlr .held));
-    octets = s .octets ∙ ap (λ (x : Octets). x ++ zeros (placeSize * (mostHeld - vlr .held)))
-        (sym (ap (vectorsAt (h .stored)) unused-is ∙ vectors-up (h .stored) (vlr .held) low (s .size ∙ ap (λ (n : ℕ). placeSize * n) (sym (s .meets)))));
-    outstanding = s .outstanding;
-  }
-
-  agrees : Agrees h vlr
-  agrees =
-      let sum = s .meets in
-      record {
-        keeps = keeps;
-        rising = s .rising;
-        size = s .size;
-        most = omega arith;
-        gone = λ p lt. s .gone p (omega arith);
-        waiting = λ p le. s .waiting p (omega arith);
-        earlier = each-map (λ q. q < low) (λ q. q + vlr .held < h .total) (λ q lt. omega arith) (h .requested) (s .earlier);
-      }
-
--- and back: `low` is what was stored and is not held
-stands : (h : History) (vlr : Vlr) → Agrees h vlr → Stands (h .total - vlr .held) h vlr
-stands h vlr a =
-    let low = h .total - vlr .held in
-    let most = a .most in
-    let sum : low + vlr .held ≡ h .total = omega arith in
-    let gone : (p : ℕ) → p < low → isUnused h p ≡ false = λ p lt. a .gone p (omega arith) in
-    let waiting : (p : ℕ) → low ≤ p → isUnused h p ≡ true = λ p le. a .waiting p (omega arith) in
-    let whole : length (h .stored) ≡ placeSize * (low + vlr .held) = a .size ∙ ap (λ (n : ℕ). placeSize * n) (sym sum) in
-    let is = unused-up h low (vlr .held) sum gone waiting in
-    record {
-      valid = a .keeps .valid;
-      meets = sum;
-      size = a .size;
-      octets = a .keeps .octets ∙ ap (λ (x : Octets). x ++ zeros (placeSize * (mostHeld - vlr .held)))
-          (ap (vectorsAt (h .stored)) is ∙ vectors-up (h .stored) (vlr .held) low whole);
-      outstanding = a .keeps .outstanding;
-      rising = a .rising;
-      gone = gone;
-      waiting = waiting;
-      earlier = each-map (λ q. q + vlr .held < h .total) (λ q. q < low) (λ q lt. omega arith) (h .requested) (a .earlier);
-    }
-
-new-stands : Stands 0 nothingYet newVlr
+pub new-agrees : Agrees nothingYet newVlr
 unfolding isUnused isIn
-new-stands = record {
-  valid = new-valid;
+new-agrees = record {
+  low = 0;
   meets = refl;
   size = refl;
-  octets = refl;
-  outstanding = (not-idle, refl);
+  valid = true-valid newVlr new-valid;
+  shaped = new-shaped;
+  places = λ k lt. absurd (omega arith);
+  state = refl;
+  out = refl;
+  known = tt;
   rising = tt;
   gone = λ p lt. absurd (omega arith);
   waiting = λ p le. rw (le-leb 0 p (omega arith));
   earlier = tt;
 }
 
--- ---- one call that is taken
+-- the record is what the history tells
+module _ (h : History) (vlr : Vlr) (a : Agrees h vlr) where
+  unused-are : unused h ≡ upFrom (a .low) (vlr .held)
+  unused-are =
+      let here : 0 + a .low ≡ a .low = omega arith in
+      ap (unusedFrom h 0) (sym (a .meets))
+      ∙ skip h (a .low) (vlr .held) 0 (λ q le lt. a .gone q (omega arith))
+      ∙ ap (λ (p : ℕ). unusedFrom h p (vlr .held)) here
+      ∙ all-unused h (vlr .held) (a .low) (a .waiting)
 
-abbrev withPending : History → Option ℕ → History
-withPending h p = record { stored = h .stored; total = h .total; dropped = h .dropped; requested = h .requested; pending = p }
+  held-is : vlr .held ≡ length (unused h)
+  held-is = sym (ap length unused-are ∙ length-up (a .low) (vlr .held))
 
--- where nothing is asked, nothing is pending
-none-pending : (h : History) (o : Option ℕ) (vlr : Vlr) → Outstanding h o vlr → (vlr .state ≡ asked → ⊥) → o ≡ none
-none-pending h none vlr out other = refl
-none-pending h (some p) vlr out other = absurd (other (out .1))
-
--- where it is asked, the outstanding vector is the pending one
-module _ (h : History) (vlr : Vlr) (is : vlr .state ≡ asked) (a : VlrAnswer) where
-  pending-rand : (o : Option ℕ) → Outstanding h o vlr → a .rand ≡ readVector (vlr .out) .rand → GivesRand h o a
-  pending-rand none out e = out .0 is
-  pending-rand (some p) out e = (out .0, e ∙ ap (λ (x : Octets). readVector x .rand) (out .2))
-
-  pending-autn : (o : Option ℕ) → Outstanding h o vlr → a .autn ≡ readVector (vlr .out) .autn → GivesAutn h o a
-  pending-autn none out e = out .0 is
-  pending-autn (some p) out e = (out .0, e ∙ ap (λ (x : Octets). readVector x .autn) (out .2))
-
-  pending-keys : (o : Option ℕ) (res : Octets) → Outstanding h o vlr → res ≡ readVector (vlr .out) .xres → a .ck ≡ readVector (vlr .out) .ck
-      → a .ik ≡ readVector (vlr .out) .ik → GivesKeys h o res a
-  pending-keys none res out e ck ik = out .0 is
-  pending-keys (some p) res out e ck ik = (
-    out .0,
-    e ∙ ap (λ (x : Octets). readVector x .xres) (out .2),
-    ck ∙ ap (λ (x : Octets). readVector x .ck) (out .2),
-    ik ∙ ap (λ (x : Octets). readVector x .ik) (out .2),
-  )
-
-module _ (low : ℕ) (h : History) (vlr : Vlr) (s : Stands low h vlr) where
-  abbrev left : Octets
-  left = drop (placeSize * low) (h .stored)
-
-  abbrev rest : ℕ
-  rest = placeSize * (mostHeld - vlr .held)
-
-  length-left : length left ≡ placeSize * vlr .held
-  length-left = length-drop (placeSize * low) (h .stored) ∙ (let a = s .size in let b = s .meets in omega arith)
-
-  most : vlr .held ≤ mostHeld
-  most = valid-true vlr (s .valid) .held
-
-  shaped-places : length (vlr .places) ≡ placeSize * mostHeld
-  shaped-places = ap length (s .octets) ∙ length-append left (zeros rest) ∙ rw (length-left, length-zeros rest) (let c = most in omega arith)
-
-  -- the outstanding vector has its size
-  shaped-out : (o : Option ℕ) → Outstanding h o vlr → length (vlr .out) ≡ placeSize
-  shaped-out none out = ap length (out .1) ∙ length-zeros placeSize
-  shaped-out (some p) out = ap length (out .2) ∙ length-part (placeSize * p) placeSize (h .stored) (let a = s .size in let b = out .0 in omega arith)
-
-  shaped : Shaped vlr
-  shaped = record { places = shaped-places; out = shaped-out (h .pending) (s .outstanding) }
-
-  -- another state, nothing pending
-  moves : (to : State) (p : Option ℕ) → p ≡ none → (to ≡ asked → ⊥) → Stands low (withPending h p) (moved to vlr)
-  unfolding moved isUnused
-  moves to p e other = record {
-    valid = true-valid (moved to vlr) (moved-valid to vlr (valid-true vlr (s .valid)));
-    meets = s .meets;
-    size = s .size;
-    octets = s .octets;
-    outstanding = subst (λ (o : Option ℕ). Outstanding (withPending h p) o (moved to vlr)) (sym e) (other, refl);
-    rising = s .rising;
-    gone = s .gone;
-    waiting = s .waiting;
-    earlier = s .earlier;
-  }
-
-  -- a batch is stored behind what is held
-  grows : (count : ℕ) (batch : Octets) (o : Option ℕ) → Outstanding h o vlr → length batch ≡ placeSize * count
-      → Outstanding (stores h count batch (h .dropped)) o (added vlr count batch)
-  unfolding added
-  grows count batch none out size = out
-  grows count batch (some p) out size =
-      let a = s .size in
-      let lt = out .0 in
-      (omega arith, out .1, out .2 ∙ sym (part-before (placeSize * p) placeSize (h .stored) batch (omega arith)))
-
-  stored-stands : (count : ℕ) (batch : Octets) → length batch ≡ placeSize * count → validVlr (added vlr count batch) ≡ true
-      → Stands low (stores h count batch (h .dropped)) (added vlr count batch)
-  unfolding added isUnused
-  stored-stands count batch size valid =
-      let a = s .size in
-      let b = s .meets in
+  queue-is : vlr .queue ≡ vectorsAt (h .stored) (unused h) ++ zeros (placeSize * (mostHeld - length (unused h)))
+  queue-is =
       let n = placeSize * vlr .held in
-      let behind : rest - length batch ≡ placeSize * (mostHeld - (vlr .held + count)) = omega arith in
-      let front : left ++ batch ≡ drop (placeSize * low) (h .stored ++ batch) = sym (drop-append-le (placeSize * low) (h .stored) batch (omega arith)) in
+      let behind : length (drop n (vlr .queue)) ≡ placeSize * (mostHeld - vlr .held)
+      = length-drop n (vlr .queue) ∙ (let s = a .shaped .queue in omega arith) in
+      sym (take-append-drop n (vlr .queue))
+      ∙ ap₂ (λ (x y : Octets). x ++ y)
+      (held-are (h .stored) (vlr .queue) (vlr .held) (a .low) (a .places) ∙ ap (vectorsAt (h .stored)) (sym unused-are))
+      (zeros-are (drop n (vlr .queue)) (valid-true vlr (a .valid) .unused)
+      ∙ ap zeros (behind ∙ ap (λ (m : ℕ). placeSize * (mostHeld - m)) held-is))
+
+  pub record-is : vlr ≡ recordOf h
+  record-is = same (a .state) held-is queue-is (a .out)
+    where
+      same : {s s′ : State} {n n′ : ℕ} {q q′ o o′ : Octets} → s ≡ s′ → n ≡ n′ → q ≡ q′ → o ≡ o′
+          → _≡_ {A = Vlr} (record { state = s; held = n; queue = q; out = o }) (record { state = s′; held = n′; queue = q′; out = o′ })
+      same e f g i = cc
+
+-- ---- what a call that is taken leaves, and what it gives
+
+-- the vector whose request is unanswered is the outstanding one
+of-unanswered : (h : History) (phase : Phase) (out : Octets) → stateOf phase ≡ node.asked → Known (h .total) phase
+    → out ≡ outOf (h .stored) phase → (P : Vector → Type 0) → P (readVector out) → OfVector h (unanswered phase) P
+of-unanswered h idle out is k e P p = zero-not-one (cc)
+of-unanswered h (asked q) out is k e P p = (k, subst (λ (x : Octets). P (readVector x)) e p)
+of-unanswered h resyncing out is k e P p = zero-not-one (cc)
+
+-- a batch behind leaves the outstanding vector, and what is known of it
+module _ (stored batch : Octets) (total count : ℕ) (size : length stored ≡ placeSize * total) where
+  same-out : (phase : Phase) → Known total phase → outOf stored phase ≡ outOf (stored ++ batch) phase
+  same-out idle k = refl
+  same-out (asked p) k = before-batch stored batch total size p k
+  same-out resyncing k = refl
+
+  still-known : (phase : Phase) → Known total phase → Known (total + count) phase
+  still-known idle k = tt
+  still-known (asked p) k = omega arith
+  still-known resyncing k = tt
+
+-- a position that is asked now is used, and one that was used is
+used-now : (d i : Bool) → (d && not (true || i)) ≡ false
+used-now false i = refl
+used-now true i = refl
+
+used-before : (d e i : Bool) → (d && not i) ≡ false → (d && not (e || i)) ≡ false
+used-before false e i q = refl
+used-before true true i q = refl
+used-before true false i q = q
+
+module _ (h : History) (vlr : Vlr) (a : Agrees h vlr) (answered : VlrAnswer) (valid : validVlr (answered .vlr) ≡ true)
+    (shaped : Shaped (answered .vlr)) where
+  abbrev next : Vlr
+  next = answered .vlr
+
+  -- the node has left Asked or Resyncing
+  leaves : (phase : Phase) → outOf (h .stored) phase ≡ noVector → Known (h .total) phase → Left (stateOf phase) vlr next
+      → Agrees (enters h phase) next
+  unfolding isUnused
+  leaves phase absent known l =
+      let same = l .held in
+      let sum = a .meets in
       record {
-        valid = valid;
+        low = a .low;
         meets = omega arith;
-        size = length-append (h .stored) batch ∙ (omega arith);
-        octets = ap (written n batch) (s .octets) ∙ written-is n rest left batch length-left ∙ ap₂ (λ (x : Octets) (k : ℕ). x ++ zeros k) front behind;
-        outstanding = grows count batch (h .pending) (s .outstanding) size;
-        rising = s .rising;
-        gone = s .gone;
-        waiting = s .waiting;
-        earlier = s .earlier;
+        size = a .size;
+        valid = valid;
+        shaped = shaped;
+        places = λ k lt. ap (λ (q : Octets). placeAt q k) (l .queue) ∙ a .places k (omega arith);
+        state = l .state;
+        out = l .out ∙ sym absent;
+        known = known;
+        rising = a .rising;
+        gone = a .gone;
+        waiting = a .waiting;
+        earlier = a .earlier;
       }
 
-  -- all that is held is dropped and a batch is stored
-  renewed-stands : (count : ℕ) (batch : Octets) → length batch ≡ placeSize * count → validVlr (added newVlr count batch) ≡ true → h .pending ≡ none
-      → Stands (h .total) (stores h count batch (h .total)) (added newVlr count batch)
-  unfolding added isUnused
-  renewed-stands count batch size valid e =
-      let a = s .size in
-      let b = s .meets in
-      let behind : placeSize * mostHeld - length batch ≡ placeSize * (mostHeld - (0 + count)) = omega arith in
-      let front : batch ≡ drop (placeSize * h .total) (h .stored ++ batch) = sym (drop-at (h .stored) batch (placeSize * h .total) a) in
+  store-leaves : (count : ℕ) (batch : Octets) → length batch ≡ placeSize * count → Stored vlr answered count batch
+      → Agrees (adds h (store count batch)) next
+  unfolding isUnused
+  store-leaves count batch long s =
+      let more = s .held in
+      let sum = a .meets in
       record {
-        valid = valid;
+        low = a .low;
         meets = omega arith;
-        size = length-append (h .stored) batch ∙ (omega arith);
-        octets = written-is 0 (placeSize * mostHeld) [] batch refl ∙ ap₂ (λ (x : Octets) (k : ℕ). x ++ zeros k) front behind;
-        outstanding = subst (λ (o : Option ℕ). Outstanding (stores h count batch (h .total)) o (added newVlr count batch)) (sym e) (not-idle, refl);
-        rising = s .rising;
+        size = length-append (h .stored) batch ∙ (let was = a .size in omega arith);
+        valid = valid;
+        shaped = shaped;
+        places = λ k lt. place k (ltb k (vlr .held)) refl lt;
+        state = s .state ∙ a .state;
+        out = s .out ∙ a .out ∙ same-out (h .stored) batch (h .total) count (a .size) (h .phase) (a .known);
+        known = still-known (h .stored) batch (h .total) count (a .size) (h .phase) (a .known);
+        rising = a .rising;
+        gone = a .gone;
+        waiting = a .waiting;
+        earlier = a .earlier;
+      }
+    where
+      place : (k : ℕ) (b : Bool) → ltb k (vlr .held) ≡ b → k < next .held
+          → placeAt (next .queue) k ≡ placeAt (h .stored ++ batch) (a .low + k)
+      place k true e lt =
+          let below = ltb-true k (vlr .held) e in
+          let sum = a .meets in
+          s .before k below ∙ a .places k below ∙ before-batch (h .stored) batch (h .total) (a .size) (a .low + k) (omega arith)
+      place k false e lt =
+          let past-held = ltb-false k (vlr .held) e in
+          let sum = a .meets in
+          let more = s .held in
+          let j = k - vlr .held in
+          let here : k ≡ vlr .held + j = omega arith in
+          let there : h .total + j ≡ a .low + k = omega arith in
+          ap (placeAt (next .queue)) here
+          ∙ s .behind j (omega arith)
+          ∙ behind-stored (h .stored) batch (h .total) (a .size) j
+          ∙ ap (placeAt (h .stored ++ batch)) there
+
+  renew-leaves : (count : ℕ) (batch : Octets) → length batch ≡ placeSize * count → Renewed vlr answered count batch
+      → Agrees (adds h (renew count batch)) next
+  unfolding isUnused
+  renew-leaves count batch long r =
+      let sum = a .meets in
+      let held = r .held in
+      record {
+        low = h .total;
+        meets = omega arith;
+        size = length-append (h .stored) batch ∙ (let was = a .size in omega arith);
+        valid = valid;
+        shaped = shaped;
+        places = λ k lt. r .batch-held k (omega arith) ∙ behind-stored (h .stored) batch (h .total) (a .size) k;
+        state = r .state;
+        out = r .out;
+        known = tt;
+        rising = a .rising;
         gone = λ p lt. rw (lt-leb (h .total) p lt);
-        waiting = λ p le. rw (le-leb (h .total) p le, not-in p (h .requested) (each-map (λ q. q < low) (λ q. q < p) (λ q lt. omega arith) (h .requested) (s .earlier)));
-        earlier = each-map (λ q. q < low) (λ q. q < h .total) (λ q lt. omega arith) (h .requested) (s .earlier);
+        waiting = λ p le. rw (
+          le-leb (h .total) p le,
+          not-in p (h .requested) (each-map (λ q. q < a .low) (λ q. q < p) (λ q lt. omega arith) (h .requested) (a .earlier)),
+        );
+        earlier = each-map (λ q. q < a .low) (λ q. q < h .total) (λ q lt. omega arith) (h .requested) (a .earlier);
       }
 
-  -- the oldest is asked
-  module _ (some-held : 0 < vlr .held) where
-    oldest-is : oldest (unused h) ≡ some low
-    oldest-is = ap oldest (unused-is low h vlr s) ∙ first-up low (vlr .held) some-held
+  module _ (some-held : 0 < vlr .held) (s : Asks vlr answered) where
+    oldest-is : oldest (unused h) ≡ some (a .low)
+    oldest-is = ap oldest (unused-are h vlr a) ∙ first-up (a .low) (vlr .held) some-held
 
-    out-is : take placeSize (vlr .places) ≡ placeAt (h .stored) low
-    out-is = ap (take placeSize) (s .octets) ∙ take-append-le placeSize left (zeros rest) (rw length-left (omega arith))
+    first-place : placeAt (vlr .queue) 0 ≡ placeAt (h .stored) (a .low)
+    first-place = let here : a .low + 0 ≡ a .low = omega arith in a .places 0 some-held ∙ ap (placeAt (h .stored)) here
 
-    places-are : drop placeSize (vlr .places) ++ zeros placeSize ≡ drop (placeSize * suc low) (h .stored) ++ zeros (placeSize * (mostHeld - (vlr .held - 1)))
-    places-are =
-        let at : placeSize * low + placeSize ≡ placeSize * suc low = omega arith in
-        let more : rest + placeSize ≡ placeSize * (mostHeld - (vlr .held - 1)) = let c = most in omega arith in
-        ap (λ (x : Octets). drop placeSize x ++ zeros placeSize) (s .octets)
-        ∙ ap (λ (x : Octets). x ++ zeros placeSize)
-        (drop-append-le placeSize left (zeros rest) (rw length-left (omega arith)) ∙ ap (λ (x : Octets). x ++ zeros rest) (drop-drop placeSize (placeSize * low) (h .stored)))
-        ∙ more-zeros (drop (placeSize * low + placeSize) (h .stored)) rest placeSize (placeSize * (mostHeld - (vlr .held - 1))) more
-        ∙ ap (λ (k : ℕ). drop k (h .stored) ++ zeros (placeSize * (mostHeld - (vlr .held - 1)))) at
-
-    was : (d : Bool) (e i : Bool) → (d && not i) ≡ false → (d && not (e || i)) ≡ false
-    was false e i q = refl
-    was true true i q = refl
-    was true false i q = q
-
-    is-now : (d : Bool) (i : Bool) → (d && not (true || i)) ≡ false
-    is-now false i = refl
-    is-now true i = refl
-
-    asked-stands : validVlr (taken vlr) ≡ true → Stands (suc low) (requests h (some low)) (taken vlr)
-    unfolding taken isUnused isIn
-    asked-stands valid =
-        let b = s .meets in
+    oldest-leaves : Agrees (requests h (some (a .low))) next
+    unfolding isUnused isIn
+    oldest-leaves =
+        let sum = a .meets in
+        let fewer = s .held in
+        let most = valid-true vlr (a .valid) .held in
         record {
-          valid = valid;
+          low = suc (a .low);
           meets = omega arith;
-          size = s .size;
-          octets = places-are;
-          outstanding = (omega arith, refl, out-is);
-          rising = (s .earlier, s .rising);
+          size = a .size;
+          valid = valid;
+          shaped = shaped;
+          places = λ k lt.
+              let at : a .low + suc k ≡ suc (a .low) + k = omega arith in
+              s .rest k (omega arith) ∙ a .places (suc k) (omega arith) ∙ ap (placeAt (h .stored)) at;
+          state = s .state;
+          out = s .out ∙ first-place;
+          known = omega arith;
+          rising = (a .earlier, a .rising);
           gone = λ p lt. ⊎-elim
-              (λ e. rw (eq-eqb p low e) (is-now (leb (h .dropped) p) (isIn p (h .requested))))
-              (λ below. was (leb (h .dropped) p) (eqb p low) (isIn p (h .requested)) (s .gone p below))
+              (λ e. rw (eq-eqb p (a .low) e) (used-now (leb (h .dropped) p) (isIn p (h .requested))))
+              (λ below. used-before (leb (h .dropped) p) (eqb p (a .low)) (isIn p (h .requested)) (a .gone p below))
               (eq-or-lt-of-le (omega arith));
-          waiting = λ p le. rw (ne-eqb p low (λ e. omega arith)) (s .waiting p (omega arith));
-          earlier = (omega arith, each-map (λ q. q < low) (λ q. q < suc low) (λ q lt. omega arith) (h .requested) (s .earlier));
+          waiting = λ p le. rw (ne-eqb p (a .low) (λ e. omega arith)) (a .waiting p (omega arith));
+          earlier = (
+            omega arith,
+            each-map (λ q. q < a .low) (λ q. q < suc (a .low)) (λ q lt. omega arith) (h .requested) (a .earlier),
+          );
         }
 
-  -- ---- what a call gives, and that history and record then agree
+    ask-leaves : Agrees (adds h ask) next
+    ask-leaves = subst (λ (o : Option ℕ). Agrees (requests h o) next) (sym oldest-is) oldest-leaves
 
-  abbrev Follows : Call → Type 0
-  Follows call = Gives call h (unrefused vlr call) × Agrees (adds h call) (unrefused vlr call .vlr)
+    ask-gives : Gives ask h answered
+    ask-gives =
+        let sum = a .meets in
+        subst (λ (o : Option ℕ). OfVector h o (λ v. (answered .outcome ≡ node.done) × (given answered ≡ requestOf v))) (sym oldest-is)
+        (omega arith, (s .outcome, s .gives ∙ ap (λ (x : Octets). requestOf (readVector x)) first-place))
 
-  nothing-pending : (vlr .state ≡ asked → ⊥) → h .pending ≡ none
-  nothing-pending other = none-pending h (h .pending) vlr (s .outstanding) other
+  -- of the vector whose request is unanswered
+  of-out : vlr .state ≡ node.asked → (P : Vector → Type 0) → P (readVector (vlr .out)) → OfVector h (unanswered (h .phase)) P
+  of-out is P p = of-unanswered h (h .phase) (vlr .out) (sym (a .state) ∙ is) (a .known) (a .out) P p
 
-  -- Asked is left
-  ended : (to : State) → (to ≡ asked → ⊥) → Agrees (ends h) (moved to vlr)
-  ended to other = agrees low (ends h) (moved to vlr) (moves to none refl other)
-
-  judged-follows : (res : Octets) → vlr .state ≡ asked → (b : Bool) → resRight vlr res ≡ b
-      → (judged vlr b .outcome ≡ passed → GivesKeys h (h .pending) res (judged vlr b)) × Agrees (ends h) (judged vlr b .vlr)
-  unfolding judged resRight
-  judged-follows res is true e = (
-    λ p. pending-keys h vlr is (judged vlr true) (h .pending) res (s .outstanding) (equal-true res (readVector (vlr .out) .xres) e) refl refl,
-    ended idle not-idle,
+  follows : (call : Call) → Due (termsOf (vlr .state) (vlr .held) call) → Does vlr answered call
+      → Gives call h answered × Agrees (adds h call) next
+  follows (store count batch) due s = ((s .outcome, s .gives), store-leaves count batch (due .part) s)
+  follows (renew count batch) due r = ((r .outcome, r .gives), renew-leaves count batch (due .part) r)
+  follows ask due s = (ask-gives (due .held) s, ask-leaves (due .held) s)
+  follows again due s = (
+    of-out (due .state) (λ v. (answered .outcome ≡ node.done) × (given answered ≡ requestOf v)) (s .outcome, s .gives),
+    subst (Agrees h) (sym (s .unchanged)) a,
   )
-  judged-follows res is false e = (λ p. absurd (not-passed p), ended idle not-idle)
-
-  follows : (call : Call) → Passes vlr call → Follows call
-  unfolding request withAuts taken
-  follows (store count batch) p = (
-    tt,
-    agrees low (stores h count batch (h .dropped)) (added vlr count batch)
-        (stored-stands count batch (p .sized) (true-valid (added vlr count batch) (leaves-valid vlr (store count batch) shaped p))),
+  follows (answer res) due s = (
+    of-out (due .state) _ (record { right = s .right; wrong = λ other. let w = s .wrong other in (w .0, w .2) }),
+    leaves idle refl tt (s .next),
   )
-  follows (renew count batch) p = (
-    tt,
-    agrees (h .total) (stores h count batch (h .total)) (added newVlr count batch)
-        (renewed-stands count batch (p .sized) (true-valid (added newVlr count batch) (leaves-valid vlr (renew count batch) shaped p))
-        (nothing-pending (λ e. not-resyncing (sym (p .named) ∙ e)))),
-  )
-  follows ask p =
-      let first = oldest-is (p .room) in
-      let sum = s .meets in
-      let held = p .room in
-      let out = out-is (p .room) in (
-        subst (λ (o : Option ℕ). GivesRand h o (request (taken vlr)) × GivesAutn h o (request (taken vlr))) (sym first)
-            ((omega arith, ap (λ (x : Octets). readVector x .rand) out), (omega arith, ap (λ (x : Octets). readVector x .autn) out)),
-        subst (λ (o : Option ℕ). Agrees (requests h o) (taken vlr)) (sym first)
-            (agrees (suc low) (requests h (some low)) (taken vlr) (asked-stands (p .room) (true-valid (taken vlr) (leaves-valid vlr ask shaped p)))),
-      )
-  follows again p = (
-    (pending-rand h vlr (p .named) (request vlr) (h .pending) (s .outstanding) refl, pending-autn h vlr (p .named) (request vlr) (h .pending) (s .outstanding) refl),
-    agrees low h vlr s,
-  )
-  follows (answer res) p = judged-follows res (p .named) (resRight vlr res) refl
-  follows (sync auts) p = (pending-rand h vlr (p .named) (withAuts vlr auts) (h .pending) (s .outstanding) refl, ended resyncing not-resyncing)
-  follows reject p = (tt, ended idle not-idle)
-  follows timeout p = (
-    tt,
-    agrees low h (moved idle vlr) (moves idle (h .pending) (nothing-pending (λ e. not-resyncing (sym (p .named) ∙ e))) not-idle),
-  )
-  follows abandon p = (tt, ended idle not-idle)
+  follows (sync auts) due s = (of-out (due .state) _ (s .outcome, s .gives), leaves resyncing refl tt (s .next))
+  follows reject due s = ((s .outcome, s .gives), leaves idle refl tt (s .next))
+  follows timeout due s = ((s .outcome, s .gives), leaves idle refl tt (s .next))
+  follows abandon due s = ((s .outcome, s .gives), leaves idle refl tt (s .next))
 
 -- ---- every call
 
--- a request is unanswered: the state is Asked
-pending-asked : (h : History) (vlr : Vlr) (o : Option ℕ) → Outstanding h o vlr → (o ≡ none → ⊥) → vlr .state ≡ asked
-pending-asked h vlr none out other = absurd (other refl)
-pending-asked h vlr (some p) out other = out .1
+module _ (h : History) (vlr : Vlr) (a : Agrees h vlr) (call : Call) where
+  abbrev handled : Handled
+  handled = record { call = call; answer = reply vlr call }
 
-due-taken : (h : History) (vlr : Vlr) → Agrees h vlr → (call : Call) → Due call h (vlr .state) → refusalOf (reply vlr call .outcome) ≡ 0
-due-taken h vlr a ask d =
-    laws vlr ask .not-refused
-    (record { lent = record { valid = a .keeps .valid; counted = tt; sized = tt }; state = d .0 })
-    (let n = a .keeps .count in let some-held = d .1 in omega arith)
-due-taken h vlr a again d =
-    laws vlr again .not-refused
-    (record { lent = record { valid = a .keeps .valid; counted = tt; sized = tt }; state = pending-asked h vlr (h .pending) (a .keeps .outstanding) d })
-    tt
-due-taken h vlr a (answer res) d = absurd d
-due-taken h vlr a (sync auts) d = absurd d
-due-taken h vlr a (store count batch) d = absurd d
-due-taken h vlr a (renew count batch) d = absurd d
-due-taken h vlr a reject d = absurd d
-due-taken h vlr a timeout d = absurd d
-due-taken h vlr a abandon d = absurd d
+  abbrev law : VlrLaws vlr call (reply vlr call)
+  law = laws vlr call
 
-abbrev Next : Vlr → History → Call → (a : VlrAnswer) (is-taken : Bool) → Type 0
-Next vlr h call a t =
-    Holds (record { vlr = vlr; call = call; answer = a; before = h; after = cond t (adds h call) h })
-    × Agrees (cond t (adds h call) h) (a .vlr)
+  -- which calls are taken, by the record and so by the history
+  taken-if : (isTaken (reply vlr call) ≡ true) ↔ Due (termsOf (stateOf (h .phase)) (length (unused h)) call)
+  taken-if = (
+    λ t. due (a .state) (held-is h vlr a) (law .not-refused .0 (eqb-true _ 0 t) .1),
+    λ d. eq-eqb _ 0 (law .not-refused .1 (a .valid, due (sym (a .state)) (sym (held-is h vlr a)) d)),
+  )
+    where
+      due : {s s′ : State} {n n′ : ℕ} → s ≡ s′ → n ≡ n′ → Due (termsOf s n call) → Due (termsOf s′ n′ call)
+      due e f d = subst₂ (λ (t : State) (m : ℕ). Due (termsOf t m call)) e f d
 
-on : (h : History) (vlr : Vlr) → Agrees h vlr → (call : Call) → Next vlr h call (reply vlr call) (isTaken (reply vlr call))
-on h vlr a call = go (refusal vlr call) refl
-  where
-    go : (n : ℕ) → refusal vlr call ≡ n → Next vlr h call (reply vlr call) (isTaken (reply vlr call))
-    go zero e =
-        let f = follows (h .total - vlr .held) h vlr (stands h vlr a) call (passes vlr call e) in
-        let number : isTaken (reply vlr call) ≡ true = ap (λ (n : ℕ). eqb n 0) (number-is vlr call ∙ e) in
-        subst₂ (Next vlr h call) (sym (taken-as vlr call e)) (sym number)
-        (record { gives = λ t. f .0; due = λ d. ap (λ (n : ℕ). eqb n 0) (number-zero vlr call); rising = f .1 .rising; keeps = f .1 .keeps }, f .1)
-    go (suc n) e =
-        let other : eqb (suc n) 0 ≡ false = ne-eqb (suc n) 0 (λ z. omega arith) in
-        let number : isTaken (reply vlr call) ≡ false = ap (λ (n : ℕ). eqb n 0) (number-is vlr call ∙ e) ∙ other in
-        subst₂ (Next vlr h call) (sym (refused-as vlr call (suc n) (omega arith) e)) (sym number) (
-          record {
-            gives = λ t. absurd (true≢false (sym t ∙ other));
-            due = λ d. let z : 0 ≡ suc n = sym (due-taken h vlr a call d) ∙ number-is vlr call ∙ e in absurd (omega arith);
-            rising = a .rising;
-            keeps = a .keeps;
-          },
-          a,
-        )
+  meets : Agrees (after h handled) (reply vlr call .vlr) → (isTaken (reply vlr call) ≡ true → Gives call h (reply vlr call))
+      → (isTaken (reply vlr call) ≡ false → given (reply vlr call) ≡ nothing) → Meets h handled
+  meets b gives refused = record {
+    taken = taken-if;
+    gives = gives;
+    refused = refused;
+    rising = b .rising;
+    keeps = record-is (after h handled) (reply vlr call .vlr) b;
+    valid = b .valid;
+  }
+
+  -- each call leaves what agrees
+  pub on : Meets h handled × Agrees (after h handled) (reply vlr call .vlr)
+  on = go (isTaken (reply vlr call)) refl
+    where
+      left : (b : Bool) → isTaken (reply vlr call) ≡ b → Agrees (cond b (adds h call) h) (reply vlr call .vlr)
+          → Agrees (after h handled) (reply vlr call .vlr)
+      left b e g = subst (λ (t : Bool). Agrees (cond t (adds h call) h) (reply vlr call .vlr)) (sym e) g
+
+      go : (b : Bool) → isTaken (reply vlr call) ≡ b → Meets h handled × Agrees (after h handled) (reply vlr call .vlr)
+      go true e =
+          let none = eqb-true (refusalOf (reply vlr call .outcome)) 0 e in
+          let f = follows h vlr a (reply vlr call) (law .stays-valid (a .shaped) (a .valid)) (law .stays-shaped (a .shaped)) call
+          (law .not-refused .0 none .1) (law .does (a .shaped) none) in
+          let b = left true e (f .1) in
+          (meets b (λ t. f .0) (λ f. absurd (true≢false (sym e ∙ f))), b)
+      go false e =
+          let same = law .stays (eqb-false (refusalOf (reply vlr call .outcome)) 0 e) in
+          let b = left false e (subst (Agrees h) (sym (ap (λ (x : VlrAnswer). x .vlr) same)) a) in
+          (meets b (λ t. absurd (true≢false (sym t ∙ e))) (λ f. ap given same), b)
 
 -- from any record and history that agree
-pub all-calls : (calls : List Call) (h : History) (vlr : Vlr) → Agrees h vlr → Each Holds (steps vlr h calls)
-unfolding steps
+pub all-calls : (calls : List Call) (h : History) (vlr : Vlr) → Agrees h vlr → InOrder h (answers reply vlr calls)
+unfolding InOrder answers
 all-calls [] h vlr a = tt
 all-calls (call ∷ rest) h vlr a =
     let here = on h vlr a call in
-    (here .0, all-calls rest (stepOf vlr h call .after) (stepOf vlr h call .answer .vlr) (here .1))
+    (here .0, all-calls rest (after h (record { call = call; answer = reply vlr call })) (reply vlr call .vlr) (here .1))
 
-pub order-of-use : OrderOfUse
-order-of-use = record {
-  all = λ calls. all-calls calls nothingYet newVlr (agrees 0 nothingYet newVlr new-stands);
-  new = agrees 0 nothingYet newVlr new-stands;
-  on = on;
-}
+pub order-of-use : OrderOfUse reply
+order-of-use calls = all-calls calls nothingYet newVlr new-agrees

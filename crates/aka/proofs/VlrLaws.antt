@@ -1,345 +1,284 @@
--- The laws of the VLR's answers, proved. Assumes nothing.
-use Prim.Native.Nat.{ℕ, zero, suc, _+_, _-_, _*_, _≤_, _<_}
-use mathlib.Core.Bool.{Bool, true, false, _&&_, _||_, and-eq-true-iff}
-use mathlib.Core.List.{_++_}
-use mathlib.Core.Logic.{_↔_}
-use mathlib.Core.Path.{_≡_, refl, sym, ap, _∙_, subst}
+-- The laws of the VLR's answers, proved: of each operation what its tests say and what its answer does. Assumes nothing.
+use Prim.Native.Nat.{ℕ, _+_, _*_, _≤_, _<_}
+use mathlib.Core.Bool.{Bool, true, false, not, cond, and-eq-true-iff, true≢false}
+use mathlib.Core.Logic.{_⊎_, inl, inr, _↔_, ⊎-elim}
+use mathlib.Core.Path.{_≡_, refl, sym, ap, _∙_}
 use native.Mathlib.Omega.{arith}
-use borrow.Author.Tests.{leb-true, le-leb, eq-eqb, lt-leb}
-use lib.Dec.{leb}
-use lib.ListN.{length, getD, take, drop, length-take, length-drop, length-append}
-use lib.Seq.{drop-append-le, drop-drop}
-use Rattle.octets.specs.Octets.{Octets, zeros, part}
+use borrow.Author.Tests.{leb-true, le-leb, lt-leb, eqb-true, eqb-false, eq-eqb, ne-eqb}
+use lib.Dec.{eqb, leb}
+use lib.ListN.{length}
+use Rattle.octets.specs.Octets.{Octets}
+use Rattle.octets.proofs.Absurd.{zero-not-one}
 use Rattle.octets.proofs.Parts.{false-unequal}
 use Rattle.octets.proofs.Strings.{equal-true}
-use Rattle.aka.specs.Layout.{readVector}
-use Rattle.aka.specs.Vlr.{Vlr, VlrAnswer, State, idle, asked, resyncing, isAsked, Outcome, done, passed, cause, refused, refusalOf, causeOf, mostHeld, placeSize, noPlaces, newVlr, allZero, validVlr, refusalOr, plain, added, taken, moved, request, resRight, judged, withAuts}
+use Rattle.aka.specs.Layout.{mostVectors}
+use Rattle.aka.specs.Vlr.{Vlr, VlrAnswer, State, idle, asked, resyncing, isResyncing, mostHeld, placeSize, newVlr, countFits}
+use Rattle.aka.specs.Vlr.{batchFits, refusalOr, unlessRefused, queued, oldestOut, noneOut, outVector, request, resRight, passIf}
+use Rattle.aka.specs.Vlr.{resyncRequest, storeRefusal, askRefusal, askedRefusal, renewRefusal, timeoutRefusal}
+use Rattle.aka.specs.Vlr as node
 use Rattle.aka.specs.Calls.{Call, reply, store, renew, ask, again, answer, sync, reject, timeout, abandon}
-use Rattle.aka.specs.VlrLaws.{placeAt, Shaped, Counted, Sized, NamedFor, Named, NoKeys, Nothing, Moved, Answers, Does, VlrLaws, VlrPromise}
-use Rattle.aka.proofs.Held.{all-zeros, length-zeros, zero-append, zero-drop, zero-each, each-zero, zero-from, part-before, length-written, written-before, written-behind, written-zero}
-use Rattle.aka.proofs.Replies.{counted, sized, namedFor, lastly, refusal, unrefused, refused-as, taken-as, number-is, refute, counted-true, true-counted, sized-true, true-sized, named-true, true-named, room-zero, Passes, passes}
+use Rattle.aka.specs.VlrLaws.{placeAt, Shaped, Any, Answers, VlrLaws, VlrPromise}
+use Rattle.aka.proofs.VlrRecords.{Valid, true-valid, valid-iff, new-valid, new-shaped, Fits, queued-shaped, queued-valid}
+use Rattle.aka.proofs.VlrRecords.{queued-before, queued-behind, oldest-shaped, oldest-rest, oldest-valid, none-shaped, none-valid}
+use Rattle.aka.proofs.VlrRecords.{none-left}
+use Rattle.aka.proofs.Replies as chain
 
--- ---- a valid record
+-- ---- what the tests say
 
-out-zero : (s : State) (z : Bool) → (isAsked s || z) ≡ true → (s ≡ asked → ⊥) → z ≡ true
-out-zero idle z e other = e
-out-zero asked z e other = absurd (other refl)
-out-zero resyncing z e other = e
+-- nothing is named: a test that always passes
+any : {A : Type 0} {x : A} → (x ≡ x) ↔ Any
+any = (λ e. tt, λ u. refl)
 
-zero-out : (s : State) (z : Bool) → ((s ≡ asked → ⊥) → z ≡ true) → (isAsked s || z) ≡ true
-zero-out idle z h = h (λ e. let zz : _≡_ {A = ℕ} 0 1 = cc in omega arith)
-zero-out asked z h = refl
-zero-out resyncing z h = h (λ e. let zz : _≡_ {A = ℕ} 0 1 = cc in omega arith)
+-- a test of the state, by the three states
+by-state : (vlr : Vlr) {P : Type 0} → (vlr .state ≡ idle → P) → (vlr .state ≡ asked → P) → (vlr .state ≡ resyncing → P) → P
+by-state vlr {P} i a r = go (vlr .state) refl
+  where
+    go : (s : State) → vlr .state ≡ s → P
+    go idle e = i e
+    go asked e = a e
+    go resyncing e = r e
 
-pub record Valid (vlr : Vlr) : Type 0 where
-  pub held : vlr .held ≤ mostHeld
-  pub unused : allZero (drop (placeSize * vlr .held) (vlr .places)) ≡ true
-  pub absent : (vlr .state ≡ asked → ⊥) → allZero (vlr .out) ≡ true
+fails : {b : Bool} {P : Type 0} → b ≡ false → (P → ⊥) → (b ≡ true) ↔ P
+fails f other = (λ t. absurd (true≢false (sym t ∙ f)), λ x. absurd (other x))
 
-pub valid-true : (vlr : Vlr) → validVlr vlr ≡ true → Valid vlr
-unfolding validVlr
-valid-true vlr e =
-    let rest = allZero (drop (placeSize * vlr .held) (vlr .places)) in
-    let all = and-eq-true-iff (leb (vlr .held) mostHeld && rest) (isAsked (vlr .state) || allZero (vlr .out)) .0 e in
-    let two = and-eq-true-iff (leb (vlr .held) mostHeld) rest .0 (all .0) in
-    record { held = leb-true (vlr .held) mostHeld (two .0); unused = two .1; absent = out-zero (vlr .state) (allZero (vlr .out)) (all .1) }
+module _ (vlr : Vlr) {b : Bool} where
+  in-idle : (vlr .state ≡ idle → b ≡ true) → (vlr .state ≡ asked → b ≡ false) → (vlr .state ≡ resyncing → b ≡ false)
+      → (b ≡ true) ↔ (vlr .state ≡ idle)
+  in-idle i a r =
+      by-state vlr (λ e. (λ t. e, λ s. i e)) (λ e. fails (a e) (λ s. zero-not-one (cc))) (λ e. fails (r e) (λ s. zero-not-one (cc)))
 
-pub true-valid : (vlr : Vlr) → Valid vlr → validVlr vlr ≡ true
-unfolding validVlr
-true-valid vlr v = rw (le-leb (vlr .held) mostHeld (v .held), v .unused) (zero-out (vlr .state) (allZero (vlr .out)) (v .absent))
+  in-asked : (vlr .state ≡ idle → b ≡ false) → (vlr .state ≡ asked → b ≡ true) → (vlr .state ≡ resyncing → b ≡ false)
+      → (b ≡ true) ↔ (vlr .state ≡ asked)
+  in-asked i a r =
+      by-state vlr (λ e. fails (i e) (λ s. zero-not-one (cc))) (λ e. (λ t. e, λ s. a e)) (λ e. fails (r e) (λ s. zero-not-one (cc)))
 
-valid-iff : (vlr : Vlr) → (validVlr vlr ≡ true)
-    ↔ ((vlr .held ≤ 16) × ((i : ℕ) → placeSize * vlr .held ≤ i → getD (vlr .places) i 0 ≡ 0)
-    × ((vlr .state ≡ asked → ⊥) → (i : ℕ) → getD (vlr .out) i 0 ≡ 0))
-valid-iff vlr = (
-  λ e. let v = valid-true vlr e in (v .held, zero-from (placeSize * vlr .held) (vlr .places) .0 (v .unused), λ other. zero-each (vlr .out) (v .absent other)),
-  λ h. true-valid vlr (record {
-    held = h .0;
-    unused = zero-from (placeSize * vlr .held) (vlr .places) .1 (h .1);
-    absent = λ other. each-zero (vlr .out) (h .2 other);
-  }),
+  in-resyncing : (vlr .state ≡ idle → b ≡ false) → (vlr .state ≡ asked → b ≡ false) → (vlr .state ≡ resyncing → b ≡ true)
+      → (b ≡ true) ↔ (vlr .state ≡ resyncing)
+  in-resyncing i a r =
+      by-state vlr (λ e. fails (i e) (λ s. zero-not-one (cc))) (λ e. fails (a e) (λ s. zero-not-one (cc))) (λ e. (λ t. e, λ s. r e))
+
+  not-resyncing : (vlr .state ≡ idle → b ≡ true) → (vlr .state ≡ asked → b ≡ true) → (vlr .state ≡ resyncing → b ≡ false)
+      → (b ≡ true) ↔ ((vlr .state ≡ idle) ⊎ (vlr .state ≡ asked))
+  not-resyncing i a r = by-state vlr (λ e. (λ t. inl e, λ s. i e)) (λ e. (λ t. inr e, λ s. a e))
+      (λ e. fails (r e) (λ s. ⊎-elim (λ f. zero-not-one (cc)) (λ f. zero-not-one (cc)) s))
+
+-- two numbers are equal
+pub equals : {m n : ℕ} → (eqb m n ≡ true) ↔ (m ≡ n)
+equals {m} {n} = (eqb-true m n, eq-eqb m n)
+
+pub counts : (count : ℕ) → (countFits count ≡ true) ↔ ((1 ≤ count) × (count ≤ mostVectors))
+unfolding countFits
+counts count = (
+  λ e.
+      let both = and-eq-true-iff (leb 1 count) (leb count mostVectors) .0 e in
+      (leb-true 1 count (both .0), leb-true count mostVectors (both .1)),
+  λ h. rw (le-leb 1 count (h .0), le-leb count mostVectors (h .1)),
 )
 
-pub new-valid : validVlr newVlr ≡ true
-new-valid = true-valid newVlr (record {
-  held = omega arith;
-  unused = zero-drop (placeSize * 0) noPlaces (all-zeros (placeSize * mostHeld));
-  absent = λ other. all-zeros placeSize;
-})
+pub fits : (count : ℕ) (batch : Octets) → (batchFits count batch ≡ true) ↔ (length batch ≡ placeSize * count)
+unfolding batchFits
+fits count batch = equals
 
-pub new-shaped : Shaped newVlr
-new-shaped = record { places = length-zeros (placeSize * mostHeld); out = length-zeros placeSize }
+-- refusal 9 unless there is room, refusal 8 unless one is held
+pub room : (n : ℕ) → (_≡_ {A = ℕ} (cond (leb n mostHeld) 0 9) 0) ↔ (n ≤ mostHeld)
+room n = (go (leb n mostHeld) refl, λ h. rw (le-leb n mostHeld h))
+  where
+    go : (b : Bool) → leb n mostHeld ≡ b → _≡_ {A = ℕ} (cond b 0 9) 0 → n ≤ mostHeld
+    go true t q = leb-true _ _ t
+    go false t q = absurd (omega arith)
 
--- ---- records that follow
+pub some-held : (n : ℕ) → (_≡_ {A = ℕ} (cond (eqb n 0) 8 0) 0) ↔ (0 < n)
+some-held n = (go (eqb n 0) refl, λ h. rw (ne-eqb n 0 (λ e. omega arith)))
+  where
+    go : (b : Bool) → eqb n 0 ≡ b → _≡_ {A = ℕ} (cond b 8 0) 0 → 0 < n
+    go true t q = absurd (omega arith)
+    go false t q = let other : (n ≡ 0 → ⊥) = eqb-false n 0 t in omega arith
 
--- a batch fits behind the vectors held
-pub record Fits (vlr : Vlr) (count : ℕ) (batch : Octets) : Type 0 where
-  pub shaped : Shaped vlr
-  pub size : length batch ≡ placeSize * count
-  pub room : vlr .held + count ≤ mostHeld
+-- ---- what the answers do
 
-module _ (vlr : Vlr) (count : ℕ) (batch : Octets) (f : Fits vlr count batch) where
-  abbrev start : ℕ
-  start = placeSize * vlr .held
-
-  inside : start + length batch ≤ length (vlr .places)
-  inside = let a = f .shaped .places in let b = f .size in let c = f .room in omega arith
-
-  added-shaped : Shaped (added vlr count batch)
-  unfolding added
-  added-shaped = record { places = length-written start batch (vlr .places) inside ∙ f .shaped .places; out = f .shaped .out }
-
-  pub added-valid : Valid vlr → Valid (added vlr count batch)
-  unfolding added
-  added-valid v =
-      let at : start + length batch ≡ placeSize * (vlr .held + count) = let b = f .size in omega arith in
-      record {
-        held = f .room;
-        unused = subst (λ (n : ℕ). allZero (drop n (added vlr count batch .places)) ≡ true) at (written-zero start batch (vlr .places) inside (v .unused));
-        absent = v .absent;
-      }
-
-  added-before : (k : ℕ) → k < vlr .held → placeAt (added vlr count batch .places) k ≡ placeAt (vlr .places) k
-  unfolding added
-  added-before k h = written-before start batch (vlr .places) inside (placeSize * k) placeSize (omega arith)
-
-  added-behind : (k : ℕ) → k < count → placeAt (added vlr count batch .places) (vlr .held + k) ≡ placeAt batch k
-  unfolding added
-  added-behind k h =
-      let at : placeSize * (vlr .held + k) ≡ start + placeSize * k = omega arith in
-      ap (λ (n : ℕ). part n placeSize (added vlr count batch .places)) at
-      ∙ written-behind start batch (vlr .places) inside (placeSize * k) placeSize (let b = f .size in omega arith)
-
-module _ (vlr : Vlr) (s : Shaped vlr) where
-  abbrev left : Octets
-  left = drop placeSize (vlr .places)
-
-  length-left : length left ≡ placeSize * 15
-  length-left = length-drop placeSize (vlr .places) ∙ (let a = s .places in omega arith)
-
-  taken-shaped : Shaped (taken vlr)
-  unfolding taken
-  taken-shaped = record {
-    places = length-append left (zeros placeSize) ∙ rw length-left;
-    out = length-take placeSize (vlr .places) ∙ (let a = s .places in omega arith);
-  }
-
-  taken-rest : (k : ℕ) → suc k < mostHeld → placeAt (taken vlr .places) k ≡ placeAt (vlr .places) (suc k)
-  unfolding taken
-  taken-rest k h =
-      let at : placeSize + placeSize * k ≡ placeSize * suc k = omega arith in
-      part-before (placeSize * k) placeSize left (zeros placeSize) (rw length-left (omega arith))
-      ∙ ap (take placeSize) (drop-drop (placeSize * k) placeSize (vlr .places))
-      ∙ ap (λ (n : ℕ). part n placeSize (vlr .places)) at
-
-  taken-valid : 0 < vlr .held → Valid vlr → Valid (taken vlr)
-  unfolding taken
-  taken-valid h v =
-      let n = placeSize * (vlr .held - 1) in
-      let at : placeSize + n ≡ placeSize * vlr .held = omega arith in
-      let most = v .held in
-      let is : drop n (left ++ zeros placeSize) ≡ drop (placeSize * vlr .held) (vlr .places) ++ zeros placeSize
-      = drop-append-le n left (zeros placeSize) (rw length-left (omega arith))
-      ∙ ap (λ (x : Octets). x ++ zeros placeSize) (drop-drop n placeSize (vlr .places) ∙ ap (λ (m : ℕ). drop m (vlr .places)) at) in
-      record {
-        held = omega arith;
-        unused = ap allZero is ∙ zero-append (drop (placeSize * vlr .held) (vlr .places)) (zeros placeSize) (v .unused) (all-zeros placeSize);
-        absent = λ other. absurd (other refl);
-      }
-
-moved-shaped : (to : State) (vlr : Vlr) → Shaped vlr → Shaped (moved to vlr)
-unfolding moved
-moved-shaped to vlr s = record { places = s .places; out = length-zeros placeSize }
-
-pub moved-valid : (to : State) (vlr : Vlr) → Valid vlr → Valid (moved to vlr)
-unfolding moved
-moved-valid to vlr v = record { held = v .held; unused = v .unused; absent = λ other. all-zeros placeSize }
-
-is-moved : (to : State) (vlr : Vlr) → Moved to vlr (moved to vlr)
-unfolding moved
-is-moved to vlr = record { state = refl; out = refl; held = refl; places = refl }
-
--- ---- what each call does
-
-pub store-fits : (vlr : Vlr) (count : ℕ) (batch : Octets) → Shaped vlr → Passes vlr (store count batch) → Fits vlr count batch
-store-fits vlr count batch s p = record { shaped = s; size = p .sized; room = p .room }
-
-pub renew-fits : (vlr : Vlr) (count : ℕ) (batch : Octets) → Passes vlr (renew count batch) → Fits newVlr count batch
-renew-fits vlr count batch p = record { shaped = new-shaped; size = p .sized; room = let c = p .counted .1 in omega arith }
-
-no-keys : (o : Outcome) (vlr : Vlr) → NoKeys (plain o vlr)
-no-keys o vlr = record { ck = refl; ik = refl }
-
-nothing : (o : Outcome) (vlr : Vlr) → Nothing (plain o vlr)
-nothing o vlr = record { no-request = record { rand = refl; autn = refl }; no-keys = no-keys o vlr; no-auts = refl }
-
-answers : (vlr : Vlr) (res : Octets) (b : Bool) → resRight vlr res ≡ b → Answers vlr (judged vlr b) res
-unfolding judged resRight
+answers : (vlr : Vlr) (res : Octets) (b : Bool) → resRight vlr res ≡ b → Answers vlr (passIf vlr b) res
+unfolding passIf resRight
 answers vlr res true e = record {
-  right = λ same. (refl, refl, refl);
-  wrong = λ other. absurd (other (equal-true res (readVector (vlr .out) .xres) e));
-  no-request = record { rand = refl; autn = refl };
-  no-auts = refl;
-  next = is-moved idle vlr;
+  right = λ same. (refl, refl);
+  wrong = λ other. absurd (other (equal-true res (outVector vlr .xres) e));
+  next = none-left idle vlr;
 }
 answers vlr res false e = record {
-  right = λ same. absurd (false-unequal res (readVector (vlr .out) .xres) e same);
-  wrong = λ other. (refl, refl, no-keys (cause 2) (moved idle vlr));
-  no-request = record { rand = refl; autn = refl };
-  no-auts = refl;
-  next = is-moved idle vlr;
+  right = λ same. absurd (false-unequal res (outVector vlr .xres) e same);
+  wrong = λ other. (refl, refl, refl);
+  next = none-left idle vlr;
 }
 
-does : (vlr : Vlr) (call : Call) → Shaped vlr → Passes vlr call → Does vlr (unrefused vlr call) call
-unfolding added request taken withAuts
-does vlr (store count batch) s p = record {
-  outcome = refl;
-  nothing = nothing done _;
-  state = refl;
-  out = refl;
-  held = refl;
-  before = added-before vlr count batch (store-fits vlr count batch s p);
-  behind = added-behind vlr count batch (store-fits vlr count batch s p);
-}
-does vlr (renew count batch) s p = record {
-  outcome = refl;
-  nothing = nothing done _;
-  state = refl;
-  out = refl;
-  held = omega arith;
-  batch-held = λ k h.
-      let at : k ≡ 0 + k = omega arith in
-      ap (placeAt (added newVlr count batch .places)) at ∙ added-behind newVlr count batch (renew-fits vlr count batch p) k h;
-}
-does vlr ask s p = record {
-  outcome = refl;
-  request = record { rand = refl; autn = refl; no-keys = record { ck = refl; ik = refl }; no-auts = refl };
-  state = refl;
-  out = refl;
-  held = let h = p .room in omega arith;
-  rest = taken-rest vlr s;
-}
-does vlr again s p = record {
-  outcome = refl;
-  request = record { rand = refl; autn = refl; no-keys = record { ck = refl; ik = refl }; no-auts = refl };
-  same = refl;
-}
-does vlr (answer res) s p = answers vlr res (resRight vlr res) refl
-does vlr (sync auts) s p = record {
-  outcome = refl;
-  rand = refl;
-  given = refl;
-  autn = refl;
-  no-keys = record { ck = refl; ik = refl };
-  next = is-moved resyncing vlr;
-}
-does vlr reject s p = record { outcome = refl; number = refl; nothing = nothing (cause 1) _; next = is-moved idle vlr }
-does vlr timeout s p = record { outcome = refl; nothing = nothing done _; next = is-moved idle vlr }
-does vlr abandon s p = record { outcome = refl; nothing = nothing done _; next = is-moved idle vlr }
+-- whether RES is right or not, the record is the same, and there is no refusal
+either-way : (P : VlrAnswer → Type 0) (vlr : Vlr) → P (passIf vlr true) → P (passIf vlr false) → (b : Bool) → P (passIf vlr b)
+either-way P vlr right wrong true = right
+either-way P vlr right wrong false = wrong
 
--- ---- what each call leaves
+store-fits : (vlr : Vlr) (count : ℕ) (batch : Octets) → Shaped vlr → length batch ≡ placeSize * count → vlr .held + count ≤ mostHeld
+    → Fits vlr count batch
+store-fits vlr count batch s size room = record { shaped = s; size = size; room = room }
 
-pub leaves-valid : (vlr : Vlr) (call : Call) → Shaped vlr → Passes vlr call → Valid (unrefused vlr call .vlr)
-unfolding request withAuts judged
-leaves-valid vlr (store count batch) s p = added-valid vlr count batch (store-fits vlr count batch s p) (valid-true vlr (p .valid))
-leaves-valid vlr (renew count batch) s p = added-valid newVlr count batch (renew-fits vlr count batch p) (valid-true newVlr new-valid)
-leaves-valid vlr ask s p = taken-valid vlr s (p .room) (valid-true vlr (p .valid))
-leaves-valid vlr again s p = valid-true vlr (p .valid)
-leaves-valid vlr (answer res) s p = go (resRight vlr res)
-  where
-    go : (b : Bool) → Valid (judged vlr b .vlr)
-    go true = moved-valid idle vlr (valid-true vlr (p .valid))
-    go false = moved-valid idle vlr (valid-true vlr (p .valid))
-leaves-valid vlr (sync auts) s p = moved-valid resyncing vlr (valid-true vlr (p .valid))
-leaves-valid vlr reject s p = moved-valid idle vlr (valid-true vlr (p .valid))
-leaves-valid vlr timeout s p = moved-valid idle vlr (valid-true vlr (p .valid))
-leaves-valid vlr abandon s p = moved-valid idle vlr (valid-true vlr (p .valid))
-
-pub leaves-shaped : (vlr : Vlr) (call : Call) → Shaped vlr → Passes vlr call → Shaped (unrefused vlr call .vlr)
-unfolding request withAuts judged
-leaves-shaped vlr (store count batch) s p = added-shaped vlr count batch (store-fits vlr count batch s p)
-leaves-shaped vlr (renew count batch) s p = added-shaped newVlr count batch (renew-fits vlr count batch p)
-leaves-shaped vlr ask s p = taken-shaped vlr s
-leaves-shaped vlr again s p = s
-leaves-shaped vlr (answer res) s p = go (resRight vlr res)
-  where
-    go : (b : Bool) → Shaped (judged vlr b .vlr)
-    go true = moved-shaped idle vlr s
-    go false = moved-shaped idle vlr s
-leaves-shaped vlr (sync auts) s p = moved-shaped resyncing vlr s
-leaves-shaped vlr reject s p = moved-shaped idle vlr s
-leaves-shaped vlr timeout s p = moved-shaped idle vlr s
-leaves-shaped vlr abandon s p = moved-shaped idle vlr s
+renew-fits : (count : ℕ) (batch : Octets) → length batch ≡ placeSize * count → count ≤ mostVectors → Fits newVlr count batch
+renew-fits count batch size most = record { shaped = new-shaped; size = size; room = omega arith }
 
 -- ---- the laws
 
--- an outcome that is no cause has the cause 0
-no-cause : (o : Outcome) → ((n : ℕ) → o ≡ cause n → ⊥) → causeOf o ≡ 0
-no-cause done h = refl
-no-cause passed h = refl
-no-cause (cause n) h = absurd (h n refl)
-no-cause (refused n) h = refl
+store-laws : (vlr : Vlr) (count : ℕ) (batch : Octets) → VlrLaws vlr (store count batch) (node.store vlr count batch)
+unfolding node.store storeRefusal queued
+store-laws vlr count batch = chain.laws vlr (store count batch)
+    (record {
+      count = counts count;
+      part = fits count batch;
+      state = not-resyncing vlr (λ e. rw e) (λ e. rw e) (λ e. rw e);
+      held = room (vlr .held + count);
+    })
+    (record {
+      number = refl;
+      does = λ s v d.
+          let f = store-fits vlr count batch s (d .part) (d .held) in
+          record {
+            outcome = refl;
+            gives = refl;
+            state = refl;
+            out = refl;
+            held = refl;
+            before = queued-before vlr count batch f;
+            behind = queued-behind vlr count batch f;
+          };
+      valid = λ s v d. queued-valid vlr count batch (store-fits vlr count batch s (d .part) (d .held)) v;
+      shaped = λ s v d. queued-shaped vlr count batch (store-fits vlr count batch s (d .part) (d .held));
+    })
 
-module _ (vlr : Vlr) (call : Call) where
-  abbrev r : VlrAnswer
-  r = reply vlr call
+renew-laws : (vlr : Vlr) (count : ℕ) (batch : Octets) → VlrLaws vlr (renew count batch) (node.renew vlr count batch)
+unfolding node.renew renewRefusal queued
+renew-laws vlr count batch = chain.laws vlr (renew count batch)
+    (record {
+      count = counts count;
+      part = fits count batch;
+      state = in-resyncing vlr (λ e. rw e) (λ e. rw e) (λ e. rw e);
+      held = any;
+    })
+    (record {
+      number = refl;
+      does = λ s v d. record {
+        outcome = refl;
+        gives = refl;
+        state = refl;
+        out = refl;
+        held = omega arith;
+        batch-held = λ k h.
+            let at : k ≡ 0 + k = omega arith in
+            ap (placeAt (queued newVlr count batch .queue)) at
+            ∙ queued-behind newVlr count batch (renew-fits count batch (d .part) (d .count .1)) k h;
+      };
+      valid = λ s v d. queued-valid newVlr count batch (renew-fits count batch (d .part) (d .count .1)) new-valid;
+      shaped = λ s v d. queued-shaped newVlr count batch (renew-fits count batch (d .part) (d .count .1));
+    })
 
-  -- refused with some number, the record stays; otherwise it is the one that the call leaves
-  kept-or : (P : Vlr → Type 0) → P vlr → (Passes vlr call → P (unrefused vlr call .vlr)) → P (r .vlr)
-  kept-or P here next = go (refusal vlr call) refl
-    where
-      go : (n : ℕ) → refusal vlr call ≡ n → P (r .vlr)
-      go zero e = subst P (sym (ap (λ (a : VlrAnswer). a .vlr) (taken-as vlr call e))) (next (passes vlr call e))
-      go (suc n) e = subst P (sym (ap (λ (a : VlrAnswer). a .vlr) (refused-as vlr call (suc n) (omega arith) e))) here
+ask-laws : (vlr : Vlr) → VlrLaws vlr ask (node.ask vlr)
+unfolding node.ask askRefusal oldestOut request
+ask-laws vlr = chain.laws vlr ask
+    (record { count = any; part = any; state = in-idle vlr (λ e. rw e) (λ e. rw e) (λ e. rw e); held = some-held (vlr .held) })
+    (record {
+      number = refl;
+      does = λ s v d. record {
+        outcome = refl;
+        gives = refl;
+        state = refl;
+        out = refl;
+        held = let h = d .held in omega arith;
+        rest = oldest-rest vlr s;
+      };
+      valid = λ s v d. oldest-valid vlr s (d .held) v;
+      shaped = λ s v d. oldest-shaped vlr s;
+    })
 
-  is-refused : (n : ℕ) → 0 < n → refusal vlr call ≡ n → r .outcome ≡ refused n
-  is-refused n pos e = ap (λ (a : VlrAnswer). a .outcome) (refused-as vlr call n pos e)
+again-laws : (vlr : Vlr) → VlrLaws vlr again (node.again vlr)
+unfolding node.again askedRefusal request
+again-laws vlr = chain.laws vlr again
+    (record { count = any; part = any; state = in-asked vlr (λ e. rw e) (λ e. rw e) (λ e. rw e); held = any })
+    (record {
+      number = refl;
+      does = λ s v d. record { outcome = refl; gives = refl; unchanged = refl };
+      valid = λ s v d. v;
+      shaped = λ s v d. s;
+    })
 
-  stays : (refusalOf (r .outcome) ≡ 0 → ⊥) → r ≡ plain (r .outcome) vlr
-  stays h = go (refusal vlr call) refl
-    where
-      go : (n : ℕ) → refusal vlr call ≡ n → r ≡ plain (r .outcome) vlr
-      go zero e = absurd (h (number-is vlr call ∙ e))
-      go (suc n) e =
-          let is = refused-as vlr call (suc n) (omega arith) e in
-          is ∙ ap (λ (o : Outcome). plain o vlr) (sym (ap (λ (a : VlrAnswer). a .outcome) is))
+answer-laws : (vlr : Vlr) (res : Octets) → VlrLaws vlr (answer res) (node.answer vlr res)
+unfolding node.answer askedRefusal passIf
+answer-laws vlr res = chain.laws vlr (answer res)
+    (record { count = any; part = equals; state = in-asked vlr (λ e. rw e) (λ e. rw e) (λ e. rw e); held = any })
+    (record {
+      number = either-way (λ a. node.refusalOf (a .outcome) ≡ 0) vlr refl refl (resRight vlr res);
+      does = λ s v d. answers vlr res (resRight vlr res) refl;
+      valid = λ s v d. either-way (λ a. Valid (a .vlr)) vlr (none-valid idle vlr v) (none-valid idle vlr v) (resRight vlr res);
+      shaped = λ s v d. either-way (λ a. Shaped (a .vlr)) vlr (none-shaped idle vlr s) (none-shaped idle vlr s) (resRight vlr res);
+    })
 
-  pub laws : VlrLaws vlr call
-  unfolding refusalOr
-  laws = record {
-    refusal1 = λ bad. is-refused 1 (omega arith) (rw bad);
-    refusal2 = λ valid bad. is-refused 2 (omega arith) (rw (valid, refute (counted call) (Counted call) (counted-true call) bad));
-    refusal3 = λ valid c bad. is-refused 3 (omega arith) (rw (valid, true-counted call c, refute (sized call) (Sized call) (sized-true call) bad));
-    refusal7 = λ l bad. is-refused 7 (omega arith)
-        (rw (l .valid, true-counted call (l .counted), true-sized call (l .sized), refute (namedFor call (vlr .state)) (NamedFor call (vlr .state)) (named-true call (vlr .state)) bad));
-    not-refused = λ n room. number-is vlr call ∙ behind n ∙ room-zero vlr call room;
-    number = λ n e. ap refusalOf e;
-    stays = stays;
-    cause0 = no-cause (r .outcome);
-    does = λ s e.
-        let none = sym (number-is vlr call) ∙ e in
-        subst (λ (a : VlrAnswer). Does vlr a call) (sym (taken-as vlr call none)) (does vlr call s (passes vlr call none));
-    stays-valid = λ s v. kept-or (λ next. validVlr next ≡ true) v (λ p. true-valid (unrefused vlr call .vlr) (leaves-valid vlr call s p));
-    stays-shaped = λ s. kept-or Shaped s (λ p. leaves-shaped vlr call s p);
-  }
-    where
-      behind : Named vlr call → refusal vlr call ≡ lastly vlr call
-      behind n = rw (n .lent .valid, true-counted call (n .lent .counted), true-sized call (n .lent .sized), true-named call (vlr .state) (n .state))
+sync-laws : (vlr : Vlr) (auts : Octets) → VlrLaws vlr (sync auts) (node.sync vlr auts)
+unfolding node.sync askedRefusal resyncRequest noneOut
+sync-laws vlr auts = chain.laws vlr (sync auts)
+    (record { count = any; part = equals; state = in-asked vlr (λ e. rw e) (λ e. rw e) (λ e. rw e); held = any })
+    (record {
+      number = refl;
+      does = λ s v d. record { outcome = refl; gives = refl; next = none-left resyncing vlr };
+      valid = λ s v d. none-valid resyncing vlr v;
+      shaped = λ s v d. none-shaped resyncing vlr s;
+    })
+
+reject-laws : (vlr : Vlr) → VlrLaws vlr reject (node.reject vlr)
+unfolding node.reject askedRefusal noneOut
+reject-laws vlr = chain.laws vlr reject
+    (record { count = any; part = any; state = in-asked vlr (λ e. rw e) (λ e. rw e) (λ e. rw e); held = any })
+    (record {
+      number = refl;
+      does = λ s v d. record { outcome = refl; number = refl; gives = refl; next = none-left idle vlr };
+      valid = λ s v d. none-valid idle vlr v;
+      shaped = λ s v d. none-shaped idle vlr s;
+    })
+
+timeout-laws : (vlr : Vlr) → VlrLaws vlr timeout (node.timeout vlr)
+unfolding node.timeout timeoutRefusal noneOut
+timeout-laws vlr = chain.laws vlr timeout
+    (record { count = any; part = any; state = in-resyncing vlr (λ e. rw e) (λ e. rw e) (λ e. rw e); held = any })
+    (record {
+      number = refl;
+      does = λ s v d. record { outcome = refl; gives = refl; next = none-left idle vlr };
+      valid = λ s v d. none-valid idle vlr v;
+      shaped = λ s v d. none-shaped idle vlr s;
+    })
+
+abandon-laws : (vlr : Vlr) → VlrLaws vlr abandon (node.abandon vlr)
+unfolding node.abandon askedRefusal noneOut
+abandon-laws vlr = chain.laws vlr abandon
+    (record { count = any; part = any; state = in-asked vlr (λ e. rw e) (λ e. rw e) (λ e. rw e); held = any })
+    (record {
+      number = refl;
+      does = λ s v d. record { outcome = refl; gives = refl; next = none-left idle vlr };
+      valid = λ s v d. none-valid idle vlr v;
+      shaped = λ s v d. none-shaped idle vlr s;
+    })
+
+pub laws : (vlr : Vlr) (call : Call) → VlrLaws vlr call (reply vlr call)
+laws vlr (store count batch) = store-laws vlr count batch
+laws vlr (renew count batch) = renew-laws vlr count batch
+laws vlr ask = ask-laws vlr
+laws vlr again = again-laws vlr
+laws vlr (answer res) = answer-laws vlr res
+laws vlr (sync auts) = sync-laws vlr auts
+laws vlr reject = reject-laws vlr
+laws vlr timeout = timeout-laws vlr
+laws vlr abandon = abandon-laws vlr
 
 pub vlr-promise : VlrPromise
-unfolding refusalOr
+unfolding node.store node.ask storeRefusal askRefusal refusalOr unlessRefused
 vlr-promise = record {
   laws = laws;
-  refusal8 = λ vlr n e. is-refused vlr ask 8 (omega arith) (rw (n .lent .valid, true-named ask (vlr .state) (n .state), eq-eqb (vlr .held) 0 e));
-  refusal9 = λ vlr count batch n past. is-refused vlr (store count batch) 9 (omega arith)
-      (rw (
-        n .lent .valid,
-        true-counted (store count batch) (n .lent .counted),
-        true-sized (store count batch) (n .lent .sized),
-        true-named (store count batch) (vlr .state) (n .state),
-        lt-leb (vlr .held + count) mostHeld past,
-      ));
+  refusal8 = λ vlr valid state none. rw (valid, state, none);
+  refusal9 = λ vlr count batch valid counted sized state past.
+      let named : not (isResyncing (vlr .state)) ≡ true = ⊎-elim (λ e. rw e) (λ e. rw e) state in
+      rw (valid, counts count .1 counted, fits count batch .1 sized, named, lt-leb (vlr .held + count) mostHeld past);
   valid = valid-iff;
-  new-valid = new-valid;
+  new-valid = true-valid newVlr new-valid;
   new-shaped = new-shaped;
 }

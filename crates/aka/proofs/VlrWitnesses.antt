@@ -1,14 +1,17 @@
--- The laws of the VLR are not empty: one list of calls on a new node in which each outcome occurs, and records that are refused. Assumes nothing.
-use Prim.Native.Nat.{ℕ, _+_}
+-- The laws of the VLR are not empty: one list of calls on a new node in which each outcome occurs, and records that are refused.
+-- Assumes nothing.
+use Prim.Native.Nat.{ℕ, _+_, _*_}
 use mathlib.Core.List.{List, [], _∷_, _++_, map}
 use mathlib.Core.Path.{_≡_, refl}
-use lib.ListN.{getD, drop, replicate}
+use lib.ListN.{getD, replicate}
 use Rattle.octets.specs.Octets.{Octets, equal}
 use Rattle.aka.specs.Layout.{Vector, writeVector, readVector}
-use Rattle.aka.specs.Vlr.{Vlr, State, idle, asked, resyncing, done, passed, cause, refused, newVlr, allZero, validVlr, countFits, batchFits, refusalOr, unlessRefused, added, taken, moved, request, storeRefusal, askRefusal, askedRefusal, resRight, judged, withAuts, renewRefusal, timeoutRefusal}
+use Rattle.aka.specs.Vlr.{Vlr, State, idle, asked, resyncing, done, passed, cause, refused, mostHeld, placeSize, newVlr, allZero}
+use Rattle.aka.specs.Vlr.{validVlr, countFits, batchFits, refusalOr, unlessRefused, queued, oldestOut, noneOut, request}
+use Rattle.aka.specs.Vlr.{storeRefusal, askRefusal, askedRefusal, resRight, passIf, resyncRequest, renewRefusal, timeoutRefusal}
 use Rattle.aka.specs.Vlr as node
-use Rattle.aka.specs.Calls.{Call, store, renew, ask, again, answer, sync, reject, timeout, abandon}
-use Rattle.aka.specs.OrderOfUse.{Step, nothingYet, isIn, isUnused, unusedFrom, unused, steps}
+use Rattle.aka.specs.Calls.{Call, reply, store, renew, ask, again, answer, sync, reject, timeout, abandon}
+use Rattle.aka.specs.OrderOfUse.{History, Handled, nothingYet, isIn, isUnused, unusedFrom, unused, after, answers}
 
 -- the vector whose RAND is n in each octet, its other parts different
 abbrev vector : ℕ → Vector
@@ -58,20 +61,39 @@ calls =
     ∷ abandon
     ∷ []
 
-abbrev walk : List Step
-walk = steps newVlr nothingYet calls
+abbrev walk : List Handled
+walk = answers reply newVlr calls
+
+-- what they tell
+unfoldable pub told : History → List Handled → History
+told h [] = h
+told h (x ∷ rest) = told (after h x) rest
 
 -- sixteen are stored, and one more
 abbrev five : ℕ → Octets
 five n = two n ++ two (n + 2) ++ one (n + 4)
 
-abbrev filling : List Step
-filling = steps newVlr nothingYet
-    (store 5 (five 1) ∷ store 5 (five 6) ∷ store 5 (five 11) ∷ store 2 (two 16) ∷ store 1 (one 16) ∷ ask ∷ store 2 (two 17) ∷ store 6 [] ∷ store 1 (one 17) ∷ [])
+abbrev filling : List Handled
+filling = answers reply newVlr (
+    store 5 (five 1)
+    ∷ store 5 (five 6)
+    ∷ store 5 (five 11)
+    ∷ store 2 (two 16)
+    ∷ store 1 (one 16)
+    ∷ ask
+    ∷ store 2 (two 17)
+    ∷ store 6 []
+    ∷ store 1 (one 17)
+    ∷ [])
 
--- a record of this held count, with the octets of its places and of its outstanding vector all of one value
+-- a record of this held count, with the octets of its queue and of its outstanding vector all of one value
 abbrev recordWith : State → (held place out : ℕ) → Vlr
-recordWith state held place out = record { state = state; held = held; places = replicate 1152 place; out = replicate 72 out }
+recordWith state held place out = record {
+  state = state;
+  held = held;
+  queue = replicate (placeSize * mostHeld) place;
+  out = replicate placeSize out;
+}
 
 pub record Computed : Type 0 where
   -- each outcome occurs
@@ -88,12 +110,12 @@ pub record Computed : Type 0 where
   pub helds : map (λ s. s .answer .vlr .held) walk
       ≡ 0 ∷ 0 ∷ 0 ∷ 2 ∷ 2 ∷ 1 ∷ 1 ∷ 1 ∷ 0 ∷ 0 ∷ 2 ∷ 1 ∷ 1 ∷ 0 ∷ 2 ∷ 2 ∷ 2 ∷ 2 ∷ 1 ∷ 1 ∷ 2 ∷ 1 ∷ 1 ∷ []
   -- the positions asked in the end: the one at 5 was dropped
-  pub requested : map (λ s. s .after .requested) (drop 22 walk) ≡ (6 ∷ 4 ∷ 3 ∷ 2 ∷ 1 ∷ 0 ∷ []) ∷ []
-  pub left : map (λ s. unused (s .after)) (drop 22 walk) ≡ (7 ∷ []) ∷ []
+  pub requested : told nothingYet walk .requested ≡ 6 ∷ 4 ∷ 3 ∷ 2 ∷ 1 ∷ 0 ∷ []
+  pub left : unused (told nothingYet walk) ≡ 7 ∷ []
   -- refusal 9, and a place that is free again
   pub filled : map (λ s. s .answer .outcome) filling ≡ done ∷ done ∷ done ∷ refused 9 ∷ done ∷ done ∷ refused 9 ∷ refused 2 ∷ done ∷ []
   -- Store adds behind, so the older is asked first; 7 comes before 9
-  pub behind : map (λ s. getD (s .answer .rand) 0 0) (steps newVlr nothingYet (store 1 (one 1) ∷ store 1 (one 2) ∷ ask ∷ [])) ≡ 0 ∷ 0 ∷ 1 ∷ []
+  pub behind : map (λ s. getD (s .answer .rand) 0 0) (answers reply newVlr (store 1 (one 1) ∷ store 1 (one 2) ∷ ask ∷ [])) ≡ 0 ∷ 0 ∷ 1 ∷ []
   pub full-resyncing : node.store (recordWith resyncing 16 1 0) 1 (one 1) .outcome ≡ refused 7
   -- refusal 1: held count, unused place, absent outstanding vector; in Asked any octets are valid
   pub new-asked : node.ask newVlr .outcome ≡ refused 8
@@ -105,7 +127,9 @@ pub record Computed : Type 0 where
   pub present : node.again (recordWith asked 16 1 1) .outcome ≡ done
 
 pub computed : Computed
-unfolding node.store node.renew node.ask node.again node.answer node.sync node.reject node.timeout node.abandon storeRefusal askRefusal askedRefusal renewRefusal timeoutRefusal unlessRefused refusalOr validVlr allZero countFits batchFits added taken moved request resRight judged withAuts equal readVector writeVector steps isIn isUnused unusedFrom
+unfolding node.store node.renew node.ask node.again node.answer node.sync node.reject node.timeout node.abandon storeRefusal askRefusal
+    askedRefusal renewRefusal timeoutRefusal unlessRefused refusalOr validVlr allZero countFits batchFits queued oldestOut noneOut request
+    resRight passIf resyncRequest equal readVector writeVector answers told isIn isUnused unusedFrom
 computed = record {
   outcomes = refl;
   rands = refl;

@@ -23,18 +23,19 @@ pub data State : Type 0 where
 pub record Vlr : Type 0 where
   pub state : State
   pub held : ℕ  -- how many vectors are held
-  pub places : Octets  -- all places, one behind the other: the vectors held, oldest first, then zeros
+  -- the sixteen places of the node (document 01: node place), one behind the other: the vectors held, oldest first, then zeros
+  pub queue : Octets
   pub out : Octets  -- the outstanding vector, zeros when none
 
 -- no vector is outstanding, none is held
 abbrev pub noVector : Octets
 noVector = zeros placeSize
 
-abbrev pub noPlaces : Octets
-noPlaces = zeros (placeSize * mostHeld)
+abbrev pub emptyQueue : Octets
+emptyQueue = zeros (placeSize * mostHeld)
 
 abbrev pub newVlr : Vlr
-newVlr = record { state = idle; held = 0; places = noPlaces; out = noVector }
+newVlr = record { state = idle; held = 0; queue = emptyQueue; out = noVector }
 
 -- ---- states
 
@@ -63,7 +64,7 @@ allZero (x ∷ rest) = eqb x 0 && allZero rest
 unfoldable pub validVlr : Vlr → Bool
 validVlr vlr =
     leb (vlr .held) mostHeld
-    && allZero (drop (placeSize * vlr .held) (vlr .places))
+    && allZero (drop (placeSize * vlr .held) (vlr .queue))
     && (isAsked (vlr .state) || allZero (vlr .out))
 
 -- a count of 1 to 5: refusal 2 does not apply
@@ -74,13 +75,13 @@ countFits count = leb 1 count && leb count mostVectors
 unfoldable pub batchFits : (count : ℕ) (batch : Octets) → Bool
 batchFits count batch = eqb (length batch) (placeSize * count)
 
--- the lowest of 1, 2, 3 and 7 that applies, else `rest`; `counted`, `sized`: count and lent part are as named; `named`: for this state
-unfoldable pub refusalOr : Vlr → (counted sized named : Bool) (rest : ℕ) → ℕ
-refusalOr vlr counted sized named rest =
+-- the lowest of 1, 2, 3 and 7 that applies, else `rest`: whether the count is as named, the length of the lent part, and the state
+unfoldable pub refusalOr : Vlr → (count part state : Bool) (rest : ℕ) → ℕ
+refusalOr vlr count part state rest =
     cond (not (validVlr vlr)) 1
-    (cond (not counted) 2
-    (cond (not sized) 3
-    (cond (not named) 7
+    (cond (not count) 2
+    (cond (not part) 3
+    (cond (not state) 7
     rest)))
 
 -- ---- the answer
@@ -115,9 +116,9 @@ pub record VlrAnswer : Type 0 where
   pub ck : Octets
   pub ik : Octets
 
--- no octets are given
-abbrev pub plain : Outcome → Vlr → VlrAnswer
-plain outcome vlr = record {
+-- an outcome that gives no octets
+abbrev pub noOctets : Outcome → Vlr → VlrAnswer
+noOctets outcome vlr = record {
   outcome = outcome;
   vlr = vlr;
   rand = zeros randSize;
@@ -130,31 +131,31 @@ plain outcome vlr = record {
 -- a refusal leaves the record and gives no octets; 0 is none
 unfoldable pub unlessRefused : Vlr → (refusal : ℕ) (answer : VlrAnswer) → VlrAnswer
 unlessRefused vlr zero answer = answer
-unlessRefused vlr (suc n) answer = plain (refused (suc n)) vlr
+unlessRefused vlr (suc n) answer = noOctets (refused (suc n)) vlr
 
 -- ---- records that follow
 
 -- a batch is added behind the vectors held
-unfoldable pub added : Vlr → (count : ℕ) (batch : Octets) → Vlr
-added vlr count batch = record {
+unfoldable pub queued : Vlr → (count : ℕ) (batch : Octets) → Vlr
+queued vlr count batch = record {
   state = vlr .state;
   held = vlr .held + count;
-  places = take (placeSize * vlr .held) (vlr .places) ++ batch ++ drop (placeSize * vlr .held + length batch) (vlr .places);
+  queue = take (placeSize * vlr .held) (vlr .queue) ++ batch ++ drop (placeSize * vlr .held + length batch) (vlr .queue);
   out = vlr .out;
 }
 
 -- the oldest becomes outstanding, the others move forward, and the place freed at the end is zero
-unfoldable pub taken : Vlr → Vlr
-taken vlr = record {
+unfoldable pub oldestOut : Vlr → Vlr
+oldestOut vlr = record {
   state = asked;
   held = vlr .held - 1;
-  places = drop placeSize (vlr .places) ++ zeros placeSize;
-  out = take placeSize (vlr .places);
+  queue = drop placeSize (vlr .queue) ++ zeros placeSize;
+  out = take placeSize (vlr .queue);
 }
 
 -- another state, where no vector is outstanding; what is held is kept
-unfoldable pub moved : State → Vlr → Vlr
-moved state vlr = record { state = state; held = vlr .held; places = vlr .places; out = noVector }
+unfoldable pub noneOut : State → Vlr → Vlr
+noneOut state vlr = record { state = state; held = vlr .held; queue = vlr .queue; out = noVector }
 
 -- the outstanding vector
 abbrev pub outVector : Vlr → Vector
@@ -181,7 +182,7 @@ module _ (vlr : Vlr) where
       (cond (leb (vlr .held + count) mostHeld) 0 9)
 
   unfoldable pub store : (count : ℕ) (batch : Octets) → VlrAnswer
-  store count batch = unlessRefused vlr (storeRefusal count batch) (plain done (added vlr count batch))
+  store count batch = unlessRefused vlr (storeRefusal count batch) (noOctets done (queued vlr count batch))
 
   -- ---- Ask (Idle) takes the oldest and becomes Asked; Again (Asked) gives the same RAND and AUTN
 
@@ -189,11 +190,11 @@ module _ (vlr : Vlr) where
   askRefusal = refusalOr vlr true true (isIdle (vlr .state)) (cond (eqb (vlr .held) 0) 8 0)
 
   unfoldable pub ask : VlrAnswer
-  ask = unlessRefused vlr askRefusal (request (taken vlr))
+  ask = unlessRefused vlr askRefusal (request (oldestOut vlr))
 
-  -- of each operation in Asked; `sized`: its lent part, if any, has the length named
-  unfoldable pub askedRefusal : (sized : Bool) → ℕ
-  askedRefusal sized = refusalOr vlr true sized (isAsked (vlr .state)) 0
+  -- of each operation in Asked; `part`: its lent part, if any, has the length named
+  unfoldable pub askedRefusal : (part : Bool) → ℕ
+  askedRefusal part = refusalOr vlr true part (isAsked (vlr .state)) 0
 
   unfoldable pub again : VlrAnswer
   again = unlessRefused vlr (askedRefusal true) (request vlr)
@@ -203,32 +204,32 @@ module _ (vlr : Vlr) where
   unfoldable pub resRight : (res : Octets) → Bool
   resRight res = equal res (outVector vlr .xres)
 
-  unfoldable pub judged : (right : Bool) → VlrAnswer
-  judged true = record {
+  unfoldable pub passIf : (right : Bool) → VlrAnswer
+  passIf true = record {
     outcome = passed;
-    vlr = moved idle vlr;
+    vlr = noneOut idle vlr;
     rand = zeros randSize;
     autn = zeros autnSize;
     auts = zeros autsSize;
     ck = outVector vlr .ck;
     ik = outVector vlr .ik;
   }
-  judged false = plain (cause 2) (moved idle vlr)
+  passIf false = noOctets (cause 2) (noneOut idle vlr)
 
   unfoldable pub answer : (res : Octets) → VlrAnswer
-  answer res = unlessRefused vlr (askedRefusal (eqb (length res) resSize)) (judged (resRight res))
+  answer res = unlessRefused vlr (askedRefusal (eqb (length res) resSize)) (passIf (resRight res))
 
   -- ---- Reject (Asked): cause 1; Idle
 
   unfoldable pub reject : VlrAnswer
-  reject = unlessRefused vlr (askedRefusal true) (plain (cause 1) (moved idle vlr))
+  reject = unlessRefused vlr (askedRefusal true) (noOctets (cause 1) (noneOut idle vlr))
 
   -- ---- Sync (Asked) gives RAND with AUTS; Resyncing
 
-  unfoldable pub withAuts : (auts : Octets) → VlrAnswer
-  withAuts auts = record {
+  unfoldable pub resyncRequest : (auts : Octets) → VlrAnswer
+  resyncRequest auts = record {
     outcome = done;
-    vlr = moved resyncing vlr;
+    vlr = noneOut resyncing vlr;
     rand = outVector vlr .rand;
     autn = zeros autnSize;
     auts = auts;
@@ -237,7 +238,7 @@ module _ (vlr : Vlr) where
   }
 
   unfoldable pub sync : (auts : Octets) → VlrAnswer
-  sync auts = unlessRefused vlr (askedRefusal (eqb (length auts) autsSize)) (withAuts auts)
+  sync auts = unlessRefused vlr (askedRefusal (eqb (length auts) autsSize)) (resyncRequest auts)
 
   -- ---- Renew (Resyncing) drops all held vectors and stores the batch; Idle
 
@@ -245,7 +246,7 @@ module _ (vlr : Vlr) where
   renewRefusal count batch = refusalOr vlr (countFits count) (batchFits count batch) (isResyncing (vlr .state)) 0
 
   unfoldable pub renew : (count : ℕ) (batch : Octets) → VlrAnswer
-  renew count batch = unlessRefused vlr (renewRefusal count batch) (plain done (added newVlr count batch))
+  renew count batch = unlessRefused vlr (renewRefusal count batch) (noOctets done (queued newVlr count batch))
 
   -- ---- Timeout (Resyncing): Idle, held vectors kept
 
@@ -253,9 +254,9 @@ module _ (vlr : Vlr) where
   timeoutRefusal = refusalOr vlr true true (isResyncing (vlr .state)) 0
 
   unfoldable pub timeout : VlrAnswer
-  timeout = unlessRefused vlr timeoutRefusal (plain done (moved idle vlr))
+  timeout = unlessRefused vlr timeoutRefusal (noOctets done (noneOut idle vlr))
 
   -- ---- Abandon (Asked): Idle
 
   unfoldable pub abandon : VlrAnswer
-  abandon = unlessRefused vlr (askedRefusal true) (plain done (moved idle vlr))
+  abandon = unlessRefused vlr (askedRefusal true) (noOctets done (noneOut idle vlr))

@@ -48,3 +48,8 @@ pub const MOST_VECTORS: u64 = 5;
 
 // The most vectors held.
 pub const MOST_HELD: usize = 16;
+
+// The octets of a place, held or outstanding, and of all places.
+pub const PLACE_SIZE: usize = VECTOR_SIZE;
+
+pub const QUEUE_SIZE: usize = PLACE_SIZE * MOST_HELD;

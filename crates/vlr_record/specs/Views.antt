@@ -14,7 +14,7 @@ stateOf Resyncing = aka.resyncing
 
 -- the record
 abbrev pub vlrOf : declaredVlr.Vlr → aka.Vlr
-vlrOf v = record { state = stateOf (v .state); held = v .held; places = v .places; out = v .out }
+vlrOf v = record { state = stateOf (v .state); held = v .held; queue = v .queue; out = v .out }
 
 -- `aka.refusalOf` and `aka.causeOf` have its numbers
 abbrev pub outcomeOf : Outcome → aka.Outcome

@@ -1,15 +1,12 @@
-// The record of the serving node, VLR or SGSN (document 01: node), and the tests on it.
-//
-// The places are one flat array, so that a part of it can be lent and a shift is one copy.
+// The record of the serving node, VLR or SGSN (document 01: node), the tests on it, and the octets in it.
+pub mod queue;
+pub mod vector;
+
 ghost use mathlib.Core.Path.{_≡_};
 ghost use Prim.Native.Nat.{_+_};
 ghost use lib.Dec.{leb};
-ghost use lib.ListN.{length};
 ghost use Rattle.aka.specs.Vlr as spec;
 ghost use Rattle.vlr_record.specs.Views.{stateOf, vlrOf};
-
-// The most vectors held.
-const MOST_HELD: u8 = 16;
 
 // Asked: a request is not answered yet. Resyncing: a synchronisation failure was handed on.
 pub enum State {
@@ -18,12 +15,12 @@ pub enum State {
     Resyncing,
 }
 
-// `places` has the `held` vectors, oldest first, then zeros; `out` is the outstanding vector, zeros when none.
+// `queue` has the `held` vectors, oldest first, then zeros; `out` is the outstanding vector, zeros when none.
 pub struct Vlr {
     pub state: State,
     pub held: u8,
-    pub places: [u8; 1152],
-    pub out: [u8; 72],
+    pub queue: [u8; aka::QUEUE_SIZE],
+    pub out: [u8; aka::PLACE_SIZE],
 }
 
 // A cause and a refusal have their numbers.
@@ -38,11 +35,11 @@ pub enum Outcome {
 pub struct Reply {
     pub outcome: Outcome,
     pub vlr: Vlr,
-    pub rand: [u8; 16],
-    pub autn: [u8; 16],
-    pub auts: [u8; 14],
-    pub ck: [u8; 16],
-    pub ik: [u8; 16],
+    pub rand: [u8; aka::RAND_SIZE],
+    pub autn: [u8; aka::AUTN_SIZE],
+    pub auts: [u8; aka::AUTS_SIZE],
+    pub ck: [u8; aka::CK_SIZE],
+    pub ik: [u8; aka::IK_SIZE],
 }
 
 // A new node: Idle, nothing held.
@@ -52,8 +49,8 @@ pub fn new() -> Vlr
     Vlr {
         state: State::Idle,
         held: 0,
-        places: [0; 1152],
-        out: [0; 72],
+        queue: [0; aka::QUEUE_SIZE],
+        out: [0; aka::PLACE_SIZE],
     }
 }
 
@@ -94,26 +91,27 @@ pub fn is_valid(vlr: Vlr) -> bool
     ensures { λ r. ⌜ r ≡ spec.validVlr (vlrOf vlr) ⌝ }
 {
     let state = vlr.state;
-    let places = vlr.places;
+    let queue = vlr.queue;
     let out = vlr.out;
-    if MOST_HELD < vlr.held {
+    let held = vlr.held as usize;
+    if aka::MOST_HELD < held {
         return false;
     }
-    if !held_vectors::is_unused(places, vlr.held as usize) {
+    if !queue::is_unused(queue, held) {
         return false;
     }
     if is_asked(state) {
         return true;
     }
-    held_vectors::is_absent(out)
+    queue::is_absent(out)
 }
 
 // Whether there is room for `count` vectors more.
 pub fn has_room(held: u8, count: u64) -> bool
     ensures { λ r. ⌜ r ≡ leb (held + count) spec.mostHeld ⌝ }
 {
-    if MOST_HELD < held {
+    if aka::MOST_HELD < held as usize {
         return false;
     }
-    count <= (MOST_HELD - held) as u64
+    count <= (aka::MOST_HELD - held as usize) as u64
 }

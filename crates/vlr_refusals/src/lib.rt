@@ -9,59 +9,59 @@ ghost use mathlib.Core.Path.{_≡_};
 ghost use Rattle.aka.specs.Vlr as spec;
 ghost use Rattle.vlr_record.specs.Views.{vlrOf};
 
-// The most vectors of a batch.
-const MOST_VECTORS: u64 = 5;
-
-// The octets of a vector.
-const SIZE: u64 = aka::VECTOR_SIZE as u64;
-
 // Whether refusal 2 does not apply.
-pub fn count_fits(count: u64) -> bool
+fn count_fits(count: u64) -> bool
     ensures { λ r. ⌜ r ≡ spec.countFits count ⌝ }
 {
     if count < 1 {
         return false;
     }
-    count <= MOST_VECTORS
+    count <= aka::MOST_VECTORS
 }
 
-// Whether refusal 3 does not apply. 72 times a count of any size need not fit a u64, so the length is divided.
-pub fn batch_fits(count: u64, batch: &[u8]) -> bool
+// Whether refusal 3 does not apply. The octets of a count of any size need not fit a u64, so the length is divided.
+fn batch_fits(count: u64, batch: &[u8]) -> bool
     ensures { λ r. ⌜ r ≡ spec.batchFits count (now (batch .entry)) ⌝ }
 {
-    let size = batch.len() as u64;
-    if size % SIZE != 0 {
+    let size = batch.len();
+    if size % aka::PLACE_SIZE != 0 {
         return false;
     }
-    size / SIZE == count
+    (size / aka::PLACE_SIZE) as u64 == count
 }
 
-// The lowest of 1, 2, 3 and 7 that applies, else `rest`.
-pub fn refusal_or(vlr: Vlr, counted: bool, sized: bool, named: bool, rest: u8) -> u8
-    ensures { λ r. ⌜ r ≡ spec.refusalOr (vlrOf vlr) counted sized named rest ⌝ }
+// The lowest of 1, 2, 3 and 7 that applies, else `rest`: whether the count is as named, the length of the lent part, and the state.
+fn refusal_or(vlr: Vlr, count: bool, part: bool, state: bool, rest: u8) -> u8
+    ensures { λ r. ⌜ r ≡ spec.refusalOr (vlrOf vlr) count part state rest ⌝ }
 {
     if !is_valid(vlr) {
         return 1;
     }
-    if !counted {
+    if !count {
         return 2;
     }
-    if !sized {
+    if !part {
         return 3;
     }
-    if !named {
+    if !state {
         return 7;
     }
     rest
 }
 
 // Of Store and Renew.
-pub fn batch_refusal(vlr: Vlr, count: u64, batch: &[u8], named: bool, rest: u8) -> u8
-    ensures { λ r. ⌜ r ≡ spec.refusalOr (vlrOf vlr) (spec.countFits count) (spec.batchFits count (now (batch .entry))) named rest ⌝ }
+fn batch_refusal(vlr: Vlr, count: u64, batch: &[u8], named: bool, rest: u8) -> u8
+    ensures { λ r. ⌜
+        r ≡ spec.refusalOr (vlrOf vlr) (spec.countFits count) (spec.batchFits count (now (batch .entry))) named rest
+        ⌝ }
 {
-    let counted = count_fits(count);
-    let sized = batch_fits(count, batch);
-    refusal_or(vlr, counted, sized, named, rest)
+    refusal_or(
+        vlr,
+        count_fits(count),
+        batch_fits(count, batch),
+        named,
+        rest,
+    )
 }
 
 // Of Store.
@@ -88,12 +88,12 @@ pub fn ask_refusal(vlr: Vlr) -> u8
     refusal_or(vlr, true, true, named, 0)
 }
 
-// Of the operations in Asked; `sized`: the lent part, if any, has the length named.
-pub fn asked_refusal(vlr: Vlr, sized: bool) -> u8
-    ensures { λ r. ⌜ r ≡ spec.askedRefusal (vlrOf vlr) sized ⌝ }
+// Of the operations in Asked; `part`: the lent part, if any, has the length named.
+pub fn asked_refusal(vlr: Vlr, part: bool) -> u8
+    ensures { λ r. ⌜ r ≡ spec.askedRefusal (vlrOf vlr) part ⌝ }
 {
     let state = vlr.state;
-    refusal_or(vlr, true, sized, is_asked(state), 0)
+    refusal_or(vlr, true, part, is_asked(state), 0)
 }
 
 // Of Renew.

@@ -3,6 +3,8 @@ use vlr_record::Outcome;
 use vlr_record::Reply;
 use vlr_record::State;
 use vlr_record::Vlr;
+use vlr_record::queue;
+use vlr_record::vector;
 ghost use mathlib.Core.Path.{_≡_};
 ghost use Prim.Native.Nat.{_*_, _+_, _<_, _≤_};
 ghost use lib.ListN.{length};
@@ -10,73 +12,84 @@ ghost use Rattle.aka.specs.Layout.{autsSize, resSize};
 ghost use Rattle.aka.specs.Vlr as spec;
 ghost use Rattle.vlr_record.specs.Views.{answerOf, outcomeOf, stateOf, vlrOf};
 
-// Where RAND and AUTN begin in a vector.
-const RAND: usize = held_vectors::RAND;
-
-const AUTN: usize = held_vectors::AUTN;
-
 // ---- records that follow
 
 // A batch is added behind the vectors held.
-pub fn added(vlr: Vlr, count: u64, batch: &[u8]) -> Vlr
+pub fn queued(vlr: Vlr, count: u64, batch: &[u8]) -> Vlr
     requires room { ⌜ vlr .held + count ≤ spec.mostHeld ⌝ }
     requires size { ⌜ length (now batch) ≡ spec.placeSize * count ⌝ }
-    ensures { λ r. ⌜ vlrOf r ≡ spec.added (vlrOf vlr) count (now (batch .entry)) ⌝ }
+    ensures { λ r. ⌜ vlrOf r ≡ spec.queued (vlrOf vlr) count (now (batch .entry)) ⌝ }
 {
     let state = vlr.state;
-    let places = vlr.places;
+    let queue = vlr.queue;
     let out = vlr.out;
     Vlr {
         state,
         held: vlr.held + (count as u8),
-        places: held_vectors::with_batch(places, vlr.held as usize, batch),
+        queue: queue::with_batch(queue, vlr.held as usize, batch),
         out,
     }
 }
 
 // The oldest becomes outstanding.
-pub fn taken(vlr: Vlr) -> Vlr
+pub fn oldest_out(vlr: Vlr) -> Vlr
     requires { ⌜ 0 < vlr .held ⌝ }
-    ensures { λ r. ⌜ vlrOf r ≡ spec.taken (vlrOf vlr) ⌝ }
+    ensures { λ r. ⌜ vlrOf r ≡ spec.oldestOut (vlrOf vlr) ⌝ }
 {
-    let places = vlr.places;
+    let queue = vlr.queue;
     Vlr {
         state: State::Asked,
         held: vlr.held - 1,
-        places: held_vectors::without_oldest(places),
-        out: held_vectors::oldest(places),
+        queue: queue::without_oldest(queue),
+        out: queue::oldest(queue),
     }
 }
 
 // Another state, where no vector is outstanding.
-pub fn moved(state: State, vlr: Vlr) -> Vlr
-    ensures { λ r. ⌜ vlrOf r ≡ spec.moved (stateOf state) (vlrOf vlr) ⌝ }
+pub fn none_out(state: State, vlr: Vlr) -> Vlr
+    ensures { λ r. ⌜ vlrOf r ≡ spec.noneOut (stateOf state) (vlrOf vlr) ⌝ }
 {
-    let places = vlr.places;
-    let none = [0u8; 72];
+    let queue = vlr.queue;
     Vlr {
         state,
         held: vlr.held,
-        places,
-        out: none,
+        queue,
+        out: [0; aka::PLACE_SIZE],
     }
 }
 
 // ---- answers
 
 // No octets are given.
-pub fn plain(outcome: Outcome, vlr: Vlr) -> Reply
-    ensures { λ r. ⌜ answerOf r ≡ spec.plain (outcomeOf outcome) (vlrOf vlr) ⌝ }
+pub fn no_octets(outcome: Outcome, vlr: Vlr) -> Reply
+    ensures { λ r. ⌜ answerOf r ≡ spec.noOctets (outcomeOf outcome) (vlrOf vlr) ⌝ }
 {
     Reply {
         outcome,
         vlr,
-        rand: [0; 16],
-        autn: [0; 16],
-        auts: [0; 14],
-        ck: [0; 16],
-        ik: [0; 16],
+        rand: [0; aka::RAND_SIZE],
+        autn: [0; aka::AUTN_SIZE],
+        auts: [0; aka::AUTS_SIZE],
+        ck: [0; aka::CK_SIZE],
+        ik: [0; aka::IK_SIZE],
     }
+}
+
+// Idle, with nothing outstanding; no octets are given.
+pub fn to_idle(outcome: Outcome, vlr: Vlr) -> Reply
+    ensures { λ r. ⌜ answerOf r ≡ spec.noOctets (outcomeOf outcome) (spec.noneOut spec.idle (vlrOf vlr)) ⌝ }
+{
+    no_octets(outcome, none_out(State::Idle, vlr))
+}
+
+// The refusal's answer, or, where its number is 0, this one.
+pub fn unless_refused(vlr: Vlr, number: u8, reply: Reply) -> Reply
+    ensures { λ r. ⌜ answerOf r ≡ spec.unlessRefused (vlrOf vlr) number (answerOf reply) ⌝ }
+{
+    if number != 0 {
+        return no_octets(Outcome::Refused(number), vlr);
+    }
+    reply
 }
 
 // RAND and AUTN of the outstanding vector are given.
@@ -87,11 +100,11 @@ pub fn request(vlr: Vlr) -> Reply
     Reply {
         outcome: Outcome::Done,
         vlr,
-        rand: held_vectors::sixteen(out, RAND),
-        autn: held_vectors::sixteen(out, AUTN),
-        auts: [0; 14],
-        ck: [0; 16],
-        ik: [0; 16],
+        rand: vector::rand(out),
+        autn: vector::autn(out),
+        auts: [0; aka::AUTS_SIZE],
+        ck: [0; aka::CK_SIZE],
+        ik: [0; aka::IK_SIZE],
     }
 }
 
@@ -101,22 +114,41 @@ pub fn res_right(vlr: Vlr, res: &[u8]) -> bool
     ensures { λ r. ⌜ r ≡ spec.resRight (vlrOf vlr) (now (res .entry)) ⌝ }
 {
     let out = vlr.out;
-    tokens::same(held_vectors::res(res), held_vectors::xres(out))
+    tokens::same(vector::res(res), vector::xres(out))
+}
+
+// CK and IK are given where RES is right.
+pub fn pass_if(vlr: Vlr, right: bool) -> Reply
+    ensures { λ r. ⌜ answerOf r ≡ spec.passIf (vlrOf vlr) right ⌝ }
+{
+    if !right {
+        return to_idle(Outcome::Cause(2), vlr);
+    }
+    let out = vlr.out;
+    Reply {
+        outcome: Outcome::Passed,
+        vlr: none_out(State::Idle, vlr),
+        rand: [0; aka::RAND_SIZE],
+        autn: [0; aka::AUTN_SIZE],
+        auts: [0; aka::AUTS_SIZE],
+        ck: vector::ck(out),
+        ik: vector::ik(out),
+    }
 }
 
 // RAND of the outstanding vector is given with AUTS.
-pub fn with_auts(vlr: Vlr, auts: &[u8]) -> Reply
+pub fn resync_request(vlr: Vlr, auts: &[u8]) -> Reply
     requires { ⌜ length (now auts) ≡ autsSize ⌝ }
-    ensures { λ r. ⌜ answerOf r ≡ spec.withAuts (vlrOf vlr) (now (auts .entry)) ⌝ }
+    ensures { λ r. ⌜ answerOf r ≡ spec.resyncRequest (vlrOf vlr) (now (auts .entry)) ⌝ }
 {
-    let out = vlr.out;
+    let failed = vlr.out;
     Reply {
         outcome: Outcome::Done,
-        vlr: moved(State::Resyncing, vlr),
-        rand: held_vectors::sixteen(out, RAND),
-        autn: [0; 16],
+        vlr: none_out(State::Resyncing, vlr),
+        rand: vector::rand(failed),
+        autn: [0; aka::AUTN_SIZE],
         auts: octets::fourteen(auts),
-        ck: [0; 16],
-        ik: [0; 16],
+        ck: [0; aka::CK_SIZE],
+        ik: [0; aka::IK_SIZE],
     }
 }

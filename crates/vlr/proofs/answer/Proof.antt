@@ -1,26 +1,27 @@
 -- `answer` is the whole answer: the refusal, else the judgement on RES. Assumes nothing.
 use mathlib.Core.Bool.{Bool}
 use mathlib.Core.Path.{sym, ap, _∙_}
-use Rattle.aka.specs.Vlr.{judged, answer}
+use Rattle.aka.specs.Vlr.{passIf, answer}
 use Rattle.vlr_record.specs.Views.{vlrOf}
-use Rattle.vlr_refusals.proofs.Refusals.{refusal, none, asked-sized}
+use Rattle.vlr_steps.proofs.Refused.{refusal, none}
+use Rattle.vlr_refusals.proofs.Refusals.{asked-length}
 use borrow.Author.Needs.{needs}
 use Rattle.vlr.proofs.answer.Statement.{statement}
 use Rattle.vlr.proofs.answer.Tie as tie
 
 returns : tie.Need-returns
 unfolding answer
-returns c = refusal _ _ (c .before .before .asked-refusal .ensures) (c .before .if1 .taken) (c .plain .ensures)
+returns c = refusal _ _ (c .before .before .asked-refusal .ensures) (c .before .if1 .taken) (c .no-octets .ensures)
 
 res-right-requires : tie.Need-res-right-requires
-res-right-requires c κs = asked-sized _ (c .before .before .before .args .res .now) 8 (sym (c .before .asked-refusal .ensures) ∙ c .if1 .left)
+res-right-requires c κs = asked-length _ (c .before .before .before .args .res .now) 8 (sym (c .before .asked-refusal .ensures) ∙ c .if1 .left)
 
 returns-2 : tie.Need-returns-2
 unfolding answer
 returns-2 c =
     let test = c .before .before in
     none _ _ (test .before .asked-refusal .ensures) (test .if1 .left)
-    (c .judged .ensures ∙ ap (λ (b : Bool). judged (vlrOf (test .before .before .before .args .vlr)) b) (c .before .res-right .ensures))
+    (c .pass-if .ensures ∙ ap (λ (b : Bool). passIf (vlrOf (test .before .before .before .args .vlr)) b) (c .before .res-right .ensures))
 
 pub answer-spec : {M : Type 1} → statement M
 answer-spec =

@@ -1,26 +1,27 @@
 -- `ask` is the whole answer: the refusal, else the oldest vector's request. Assumes nothing.
 use mathlib.Core.Path.{sym, ap, _∙_}
 use Rattle.aka.specs.Vlr.{request, ask}
-use Rattle.vlr_refusals.proofs.Refusals.{refusal, none, ask-held}
+use Rattle.vlr_steps.proofs.Refused.{refusal, none}
+use Rattle.vlr_refusals.proofs.Refusals.{ask-held}
 use borrow.Author.Needs.{needs}
 use Rattle.vlr.proofs.ask.Statement.{statement}
 use Rattle.vlr.proofs.ask.Tie as tie
 
 returns : tie.Need-returns
 unfolding ask
-returns c = refusal _ _ (c .before .before .ask-refusal .ensures) (c .before .if1 .taken) (c .plain .ensures)
+returns c = refusal _ _ (c .before .before .ask-refusal .ensures) (c .before .if1 .taken) (c .no-octets .ensures)
 
-taken-requires : tie.Need-taken-requires
-taken-requires c κs = ask-held _ (sym (c .before .ask-refusal .ensures) ∙ c .if1 .left)
+oldest-out-requires : tie.Need-oldest-out-requires
+oldest-out-requires c κs = ask-held _ (sym (c .before .ask-refusal .ensures) ∙ c .if1 .left)
 
 returns-2 : tie.Need-returns-2
 unfolding ask
 returns-2 c =
     none _ _ (c .before .before .before .ask-refusal .ensures) (c .before .before .if1 .left)
-    (c .request .ensures ∙ ap request (c .before .taken .ensures))
+    (c .request .ensures ∙ ap request (c .before .oldest-out .ensures))
 
 pub ask-spec : {M : Type 1} → statement M
 ask-spec =
     tie.close
     (tie.spec
-    (λ c κs. search needs) (λ c κs. search needs) returns taken-requires (λ c κs. search needs) returns-2)
+    (λ c κs. search needs) (λ c κs. search needs) returns oldest-out-requires (λ c κs. search needs) returns-2)

@@ -1,18 +1,19 @@
 -- `renew` is the whole answer: the refusal, else a new record with the batch. Assumes nothing.
 use mathlib.Core.Path.{sym, ap, _∙_}
 use native.Mathlib.Omega.{arith}
-use Rattle.aka.specs.Vlr.{Vlr, done, plain, added, renew}
-use Rattle.vlr_refusals.proofs.Refusals.{refusal, none, renew-fits}
+use Rattle.aka.specs.Vlr.{Vlr, done, noOctets, queued, renew}
+use Rattle.vlr_steps.proofs.Refused.{refusal, none}
+use Rattle.vlr_refusals.proofs.Refusals.{renew-fits}
 use borrow.Author.Needs.{needs}
 use Rattle.vlr.proofs.renew.Statement.{statement}
 use Rattle.vlr.proofs.renew.Tie as tie
 
 returns : tie.Need-returns
 unfolding renew
-returns c = refusal _ _ (c .before .before .renew-refusal .ensures) (c .before .if1 .taken) (c .plain .ensures)
+returns c = refusal _ _ (c .before .before .renew-refusal .ensures) (c .before .if1 .taken) (c .no-octets .ensures)
 
-added-requires : tie.Need-added-requires
-added-requires c κs =
+queued-requires : tie.Need-queued-requires
+queued-requires c κs =
     let fits = renew-fits _ _ _ (sym (c .before .before .renew-refusal .ensures) ∙ c .before .if1 .left) in
     (omega (arith, fits .0, ap (λ (v : Vlr). v .held) (c .new .ensures)), fits .1)
 
@@ -21,12 +22,12 @@ unfolding renew
 returns-2 c =
     let args = c .before .before .before .before .before .before .args in
     none _ _ (c .before .before .before .before .renew-refusal .ensures) (c .before .before .before .if1 .left)
-    (c .plain2 .ensures ∙ ap (λ (v : Vlr). plain done v)
-    (c .before .added .ensures ∙ ap (λ (v : Vlr). added v (args .count) (args .batch .now)) (c .before .before .new .ensures)))
+    (c .no-octets2 .ensures ∙ ap (λ (v : Vlr). noOctets done v)
+    (c .before .queued .ensures ∙ ap (λ (v : Vlr). queued v (args .count) (args .batch .now)) (c .before .before .new .ensures)))
 
 pub renew-spec : {M : Type 1} → statement M
 renew-spec =
     tie.close
     (tie.spec
-    (λ c κs. search needs) (λ c κs. search needs) returns (λ c κs. search needs) added-requires (λ c κs. search needs)
+    (λ c κs. search needs) (λ c κs. search needs) returns (λ c κs. search needs) queued-requires (λ c κs. search needs)
     returns-2)

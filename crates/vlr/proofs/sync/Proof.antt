@@ -1,21 +1,22 @@
 -- `sync` is the whole answer: the refusal, else RAND with AUTS. Assumes nothing.
 use mathlib.Core.Path.{sym, _∙_}
 use Rattle.aka.specs.Vlr.{sync}
-use Rattle.vlr_refusals.proofs.Refusals.{refusal, none, asked-sized}
+use Rattle.vlr_steps.proofs.Refused.{refusal, none}
+use Rattle.vlr_refusals.proofs.Refusals.{asked-length}
 use borrow.Author.Needs.{needs}
 use Rattle.vlr.proofs.sync.Statement.{statement}
 use Rattle.vlr.proofs.sync.Tie as tie
 
 returns : tie.Need-returns
 unfolding sync
-returns c = refusal _ _ (c .before .before .asked-refusal .ensures) (c .before .if1 .taken) (c .plain .ensures)
+returns c = refusal _ _ (c .before .before .asked-refusal .ensures) (c .before .if1 .taken) (c .no-octets .ensures)
 
-with-auts-requires : tie.Need-with-auts-requires
-with-auts-requires c κs = asked-sized _ (c .before .before .before .args .auts .now) 14 (sym (c .before .asked-refusal .ensures) ∙ c .if1 .left)
+resync-request-requires : tie.Need-resync-request-requires
+resync-request-requires c κs = asked-length _ (c .before .before .before .args .auts .now) 14 (sym (c .before .asked-refusal .ensures) ∙ c .if1 .left)
 
 returns-2 : tie.Need-returns-2
 unfolding sync
-returns-2 c = none _ _ (c .before .before .asked-refusal .ensures) (c .before .if1 .left) (c .with-auts .ensures)
+returns-2 c = none _ _ (c .before .before .asked-refusal .ensures) (c .before .if1 .left) (c .resync-request .ensures)
 
 pub sync-spec : {M : Type 1} → statement M
-sync-spec = tie.close (tie.spec (λ c κs. search needs) (λ c κs. search needs) returns with-auts-requires returns-2)
+sync-spec = tie.close (tie.spec (λ c κs. search needs) (λ c κs. search needs) returns resync-request-requires returns-2)
