@@ -77,7 +77,7 @@ fn record(c: Call, store: &[u8]) -> Vlr {
     Vlr {
         state: state_of(call_parts::number(c, 0)),
         held: call_parts::octet(c, 1),
-        places,
+        queue: places,
         out,
     }
 }
@@ -136,7 +136,7 @@ fn put_octets(t: Text, reply: Reply) -> Text {
 fn put_vlr(t: Text, vlr: Vlr) -> Text {
     let state = vlr.state;
     let out = vlr.out;
-    let places = vlr.places;
+    let places = vlr.queue;
     let t = call_parts::put_number(t, number_of(state));
     let t = call_parts::put_octets(call_parts::put_number(t, vlr.held as u64), &out);
     put_places(t, &places)
