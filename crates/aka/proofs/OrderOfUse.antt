@@ -3,7 +3,7 @@
 use Prim.Native.Nat.{ℕ, zero, suc, _+_, _-_, _*_, _≤_, _<_}
 use mathlib.Core.Bool.{Bool, true, false, _&&_, _||_, not, cond, true≢false}
 use mathlib.Core.List.{List, [], _∷_, _++_}
-use mathlib.Core.Logic.{_⊎_, _↔_, ⊎-elim}
+use mathlib.Core.Logic.{_↔_, ⊎-elim}
 use mathlib.Core.Option.{Option, none, some}
 use mathlib.Core.Path.{_≡_, refl, sym, ap, ap₂, _∙_, subst, subst₂}
 use native.Mathlib.Nat.{suc-add, eq-or-lt-of-le}
@@ -16,13 +16,13 @@ use Rattle.octets.specs.Octets.{Octets, zeros, part}
 use Rattle.octets.proofs.Absurd.{zero-not-one}
 use Rattle.octets.proofs.Parts.{past}
 use Rattle.aka.specs.Layout.{Vector, readVector}
-use Rattle.aka.specs.Vlr.{Vlr, VlrAnswer, State, refusalOf, mostHeld, placeSize, noVector, newVlr, allZero, validVlr}
+use Rattle.aka.specs.Vlr.{Vlr, VlrAnswer, State, refusalOf, mostHeld, placeSize, noVector, newVlr, validVlr}
 use Rattle.aka.specs.Vlr as node
 use Rattle.aka.specs.Calls.{Call, reply, store, renew, ask, again, answer, sync, reject, timeout, abandon}
 use Rattle.aka.specs.Demand3.{Each}
 use Rattle.aka.specs.VlrLaws.{placeAt, Shaped, termsOf, Due, given, nothing, requestOf, Left, Stored, Renewed, Asks, Does, VlrLaws}
 use Rattle.aka.specs.OrderOfUse.{Phase, idle, asked, resyncing, History, nothingYet, isIn, isUnused, unusedFrom, unused, oldest}
-use Rattle.aka.specs.OrderOfUse.{unanswered, enters, stores, requests, adds, Handled, isTaken, after, stateOf, vectorsAt, outOf}
+use Rattle.aka.specs.OrderOfUse.{unanswered, enters, requests, adds, Handled, isTaken, after, stateOf, vectorsAt, outOf}
 use Rattle.aka.specs.OrderOfUse.{recordOf, OfVector, Gives, Rising, Meets, InOrder, answers, OrderOfUse}
 use Rattle.aka.proofs.Held.{zeros-are, part-before}
 use Rattle.aka.proofs.VlrRecords.{valid-true, true-valid, new-valid, new-shaped}
@@ -201,7 +201,10 @@ module _ (stored batch : Octets) (total count : ℕ) (size : length stored ≡ p
   still-known (asked p) k = omega arith
   still-known resyncing k = tt
 
--- a position that is asked now is used, and one that was used is
+-- a position that is dropped or asked now is used, and one that was used is
+used-dropped : (dropped p : ℕ) (b : Bool) → p < dropped → (leb dropped p && b) ≡ false
+used-dropped dropped p b lt = rw (lt-leb dropped p lt)
+
 used-now : (d i : Bool) → (d && not (true || i)) ≡ false
 used-now false i = refl
 used-now true i = refl
@@ -296,7 +299,7 @@ module _ (h : History) (vlr : Vlr) (a : Agrees h vlr) (answered : VlrAnswer) (va
         out = r .out;
         known = tt;
         rising = a .rising;
-        gone = λ p lt. rw (lt-leb (h .total) p lt);
+        gone = λ p lt. used-dropped (h .total) p (not (isIn p (h .requested))) lt;
         waiting = λ p le. rw (
           le-leb (h .total) p le,
           not-in p (h .requested) (each-map (λ q. q < a .low) (λ q. q < p) (λ q lt. omega arith) (h .requested) (a .earlier)),

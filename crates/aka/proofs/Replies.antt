@@ -1,7 +1,7 @@
 -- The VLR's refusals, once for all its operations: where the tests say what document 01 names and the answer does what it says, the laws
 -- hold, whatever tests and answer the definition of an operation has. Assumes nothing.
 use Prim.Native.Nat.{ℕ, zero, suc}
-use mathlib.Core.Bool.{Bool, true, false, not, cond, true≢false}
+use mathlib.Core.Bool.{Bool, true, false}
 use mathlib.Core.Logic.{_↔_}
 use mathlib.Core.Path.{_≡_, refl, sym, ap, _∙_, subst}
 use native.Mathlib.Omega.{arith}
@@ -31,13 +31,18 @@ refute true P says other = absurd (other (says .0 refl))
 refute false P says other = refl
 
 -- no refusal: every test passes
-pub clear : (v c p s : Bool) (rest : ℕ) → cond (not v) 1 (cond (not c) 2 (cond (not p) 3 (cond (not s) 7 rest))) ≡ 0
-    → (v ≡ true) × (c ≡ true) × (p ≡ true) × (s ≡ true) × (rest ≡ 0)
-clear false c p s rest e = absurd (omega arith)
-clear true false p s rest e = absurd (omega arith)
-clear true true false s rest e = absurd (omega arith)
-clear true true true false rest e = absurd (omega arith)
-clear true true true true rest e = (refl, refl, refl, refl, e)
+pub clear : (vlr : Vlr) (c p s : Bool) (rest : ℕ) → refusalOr vlr c p s rest ≡ 0
+    → (validVlr vlr ≡ true) × (c ≡ true) × (p ≡ true) × (s ≡ true) × (rest ≡ 0)
+unfolding refusalOr
+clear vlr c p s rest e = go (validVlr vlr) refl c p s e
+  where
+    go : (v : Bool) → validVlr vlr ≡ v → (c p s : Bool) → refusalOr vlr c p s rest ≡ 0
+        → (validVlr vlr ≡ true) × (c ≡ true) × (p ≡ true) × (s ≡ true) × (rest ≡ 0)
+    go false v c p s e = let z : _≡_ {A = ℕ} 1 0 = rw v at e in absurd (omega arith)
+    go true v false p s e = let z : _≡_ {A = ℕ} 2 0 = rw v at e in absurd (omega arith)
+    go true v true false s e = let z : _≡_ {A = ℕ} 3 0 = rw v at e in absurd (omega arith)
+    go true v true true false e = let z : _≡_ {A = ℕ} 7 0 = rw v at e in absurd (omega arith)
+    go true v true true true e = (v, refl, refl, refl, rw v at e)
 
 -- an outcome that is no cause has the cause 0
 no-cause : (o : Outcome) → ((n : ℕ) → o ≡ cause n → ⊥) → causeOf o ≡ 0
@@ -80,9 +85,8 @@ module _ (vlr : Vlr) (call : Call) {c p s : Bool} {rest : ℕ} {a : VlrAnswer}
       go (suc n) e = some n e
 
   passing : refusal ≡ 0 → (validVlr vlr ≡ true) × Due (termsOf (vlr .state) (vlr .held) call)
-  unfolding refusalOr
   passing e =
-      let all = clear (validVlr vlr) c p s rest e in (
+      let all = clear vlr c p s rest e in (
         all .0,
         record {
           count = tests .count .0 (all .1);

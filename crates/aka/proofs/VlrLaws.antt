@@ -19,7 +19,8 @@ use Rattle.aka.specs.Vlr as node
 use Rattle.aka.specs.Calls.{Call, reply, store, renew, ask, again, answer, sync, reject, timeout, abandon}
 use Rattle.aka.specs.VlrLaws.{placeAt, Shaped, Any, Answers, VlrLaws, VlrPromise}
 use Rattle.aka.proofs.VlrRecords.{Valid, true-valid, valid-iff, new-valid, new-shaped, Fits, queued-shaped, queued-valid}
-use Rattle.aka.proofs.VlrRecords.{queued-before, queued-behind, oldest-shaped, oldest-rest, oldest-valid, none-shaped, none-valid}
+use Rattle.aka.proofs.VlrRecords.{queued-before, queued-behind, oldest-shaped, oldest-first, oldest-rest, oldest-valid}
+use Rattle.aka.proofs.VlrRecords.{none-shaped, none-valid}
 use Rattle.aka.proofs.VlrRecords.{none-left}
 use Rattle.aka.proofs.Replies as chain
 
@@ -129,7 +130,7 @@ store-laws vlr count batch = chain.laws vlr (store count batch)
     (record {
       count = counts count;
       part = fits count batch;
-      state = not-resyncing vlr (λ e. rw e) (λ e. rw e) (λ e. rw e);
+      state = not-resyncing vlr (λ e. cc) (λ e. cc) (λ e. cc);
       held = room (vlr .held + count);
     })
     (record {
@@ -155,7 +156,7 @@ renew-laws vlr count batch = chain.laws vlr (renew count batch)
     (record {
       count = counts count;
       part = fits count batch;
-      state = in-resyncing vlr (λ e. rw e) (λ e. rw e) (λ e. rw e);
+      state = in-resyncing vlr (λ e. cc) (λ e. cc) (λ e. cc);
       held = any;
     })
     (record {
@@ -178,14 +179,14 @@ renew-laws vlr count batch = chain.laws vlr (renew count batch)
 ask-laws : (vlr : Vlr) → VlrLaws vlr ask (node.ask vlr)
 unfolding node.ask askRefusal oldestOut request
 ask-laws vlr = chain.laws vlr ask
-    (record { count = any; part = any; state = in-idle vlr (λ e. rw e) (λ e. rw e) (λ e. rw e); held = some-held (vlr .held) })
+    (record { count = any; part = any; state = in-idle vlr (λ e. cc) (λ e. cc) (λ e. cc); held = some-held (vlr .held) })
     (record {
       number = refl;
       does = λ s v d. record {
         outcome = refl;
         gives = refl;
         state = refl;
-        out = refl;
+        out = oldest-first vlr s;
         held = let h = d .held in omega arith;
         rest = oldest-rest vlr s;
       };
@@ -196,7 +197,7 @@ ask-laws vlr = chain.laws vlr ask
 again-laws : (vlr : Vlr) → VlrLaws vlr again (node.again vlr)
 unfolding node.again askedRefusal request
 again-laws vlr = chain.laws vlr again
-    (record { count = any; part = any; state = in-asked vlr (λ e. rw e) (λ e. rw e) (λ e. rw e); held = any })
+    (record { count = any; part = any; state = in-asked vlr (λ e. cc) (λ e. cc) (λ e. cc); held = any })
     (record {
       number = refl;
       does = λ s v d. record { outcome = refl; gives = refl; unchanged = refl };
@@ -207,7 +208,7 @@ again-laws vlr = chain.laws vlr again
 answer-laws : (vlr : Vlr) (res : Octets) → VlrLaws vlr (answer res) (node.answer vlr res)
 unfolding node.answer askedRefusal passIf
 answer-laws vlr res = chain.laws vlr (answer res)
-    (record { count = any; part = equals; state = in-asked vlr (λ e. rw e) (λ e. rw e) (λ e. rw e); held = any })
+    (record { count = any; part = equals; state = in-asked vlr (λ e. cc) (λ e. cc) (λ e. cc); held = any })
     (record {
       number = either-way (λ a. node.refusalOf (a .outcome) ≡ 0) vlr refl refl (resRight vlr res);
       does = λ s v d. answers vlr res (resRight vlr res) refl;
@@ -218,7 +219,7 @@ answer-laws vlr res = chain.laws vlr (answer res)
 sync-laws : (vlr : Vlr) (auts : Octets) → VlrLaws vlr (sync auts) (node.sync vlr auts)
 unfolding node.sync askedRefusal resyncRequest noneOut
 sync-laws vlr auts = chain.laws vlr (sync auts)
-    (record { count = any; part = equals; state = in-asked vlr (λ e. rw e) (λ e. rw e) (λ e. rw e); held = any })
+    (record { count = any; part = equals; state = in-asked vlr (λ e. cc) (λ e. cc) (λ e. cc); held = any })
     (record {
       number = refl;
       does = λ s v d. record { outcome = refl; gives = refl; next = none-left resyncing vlr };
@@ -229,7 +230,7 @@ sync-laws vlr auts = chain.laws vlr (sync auts)
 reject-laws : (vlr : Vlr) → VlrLaws vlr reject (node.reject vlr)
 unfolding node.reject askedRefusal noneOut
 reject-laws vlr = chain.laws vlr reject
-    (record { count = any; part = any; state = in-asked vlr (λ e. rw e) (λ e. rw e) (λ e. rw e); held = any })
+    (record { count = any; part = any; state = in-asked vlr (λ e. cc) (λ e. cc) (λ e. cc); held = any })
     (record {
       number = refl;
       does = λ s v d. record { outcome = refl; number = refl; gives = refl; next = none-left idle vlr };
@@ -240,7 +241,7 @@ reject-laws vlr = chain.laws vlr reject
 timeout-laws : (vlr : Vlr) → VlrLaws vlr timeout (node.timeout vlr)
 unfolding node.timeout timeoutRefusal noneOut
 timeout-laws vlr = chain.laws vlr timeout
-    (record { count = any; part = any; state = in-resyncing vlr (λ e. rw e) (λ e. rw e) (λ e. rw e); held = any })
+    (record { count = any; part = any; state = in-resyncing vlr (λ e. cc) (λ e. cc) (λ e. cc); held = any })
     (record {
       number = refl;
       does = λ s v d. record { outcome = refl; gives = refl; next = none-left idle vlr };
@@ -251,7 +252,7 @@ timeout-laws vlr = chain.laws vlr timeout
 abandon-laws : (vlr : Vlr) → VlrLaws vlr abandon (node.abandon vlr)
 unfolding node.abandon askedRefusal noneOut
 abandon-laws vlr = chain.laws vlr abandon
-    (record { count = any; part = any; state = in-asked vlr (λ e. rw e) (λ e. rw e) (λ e. rw e); held = any })
+    (record { count = any; part = any; state = in-asked vlr (λ e. cc) (λ e. cc) (λ e. cc); held = any })
     (record {
       number = refl;
       does = λ s v d. record { outcome = refl; gives = refl; next = none-left idle vlr };

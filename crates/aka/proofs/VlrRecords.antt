@@ -89,9 +89,16 @@ module _ (vlr : Vlr) (count : ℕ) (batch : Octets) (f : Fits vlr count batch) w
   inside : start + length batch ≤ length (vlr .queue)
   inside = let a = f .shaped .queue in let b = f .size in let c = f .room in omega arith
 
-  pub queued-shaped : Shaped (queued vlr count batch)
+  pub queued-before : (k : ℕ) → k < vlr .held → placeAt (queued vlr count batch .queue) k ≡ placeAt (vlr .queue) k
   unfolding queued
-  queued-shaped = record { queue = length-written start batch (vlr .queue) inside ∙ f .shaped .queue; out = f .shaped .out }
+  queued-before k h = written-before start batch (vlr .queue) inside (placeSize * k) placeSize (omega arith)
+
+  pub queued-behind : (k : ℕ) → k < count → placeAt (queued vlr count batch .queue) (vlr .held + k) ≡ placeAt batch k
+  unfolding queued
+  queued-behind k h =
+      let at : placeSize * (vlr .held + k) ≡ start + placeSize * k = omega arith in
+      ap (λ (n : ℕ). part n placeSize (queued vlr count batch .queue)) at
+      ∙ written-behind start batch (vlr .queue) inside (placeSize * k) placeSize (let b = f .size in omega arith)
 
   pub queued-valid : Valid vlr → Valid (queued vlr count batch)
   unfolding queued
@@ -104,16 +111,9 @@ module _ (vlr : Vlr) (count : ℕ) (batch : Octets) (f : Fits vlr count batch) w
         absent = v .absent;
       }
 
-  pub queued-before : (k : ℕ) → k < vlr .held → placeAt (queued vlr count batch .queue) k ≡ placeAt (vlr .queue) k
+  pub queued-shaped : Shaped (queued vlr count batch)
   unfolding queued
-  queued-before k h = written-before start batch (vlr .queue) inside (placeSize * k) placeSize (omega arith)
-
-  pub queued-behind : (k : ℕ) → k < count → placeAt (queued vlr count batch .queue) (vlr .held + k) ≡ placeAt batch k
-  unfolding queued
-  queued-behind k h =
-      let at : placeSize * (vlr .held + k) ≡ start + placeSize * k = omega arith in
-      ap (λ (n : ℕ). part n placeSize (queued vlr count batch .queue)) at
-      ∙ written-behind start batch (vlr .queue) inside (placeSize * k) placeSize (let b = f .size in omega arith)
+  queued-shaped = record { queue = length-written start batch (vlr .queue) inside ∙ f .shaped .queue; out = f .shaped .out }
 
 -- ---- the oldest outstanding
 
@@ -124,12 +124,9 @@ module _ (vlr : Vlr) (s : Shaped vlr) where
   length-left : length left ≡ placeSize * 15
   length-left = length-drop placeSize (vlr .queue) ∙ (let a = s .queue in omega arith)
 
-  pub oldest-shaped : Shaped (oldestOut vlr)
+  pub oldest-first : oldestOut vlr .out ≡ placeAt (vlr .queue) 0
   unfolding oldestOut
-  oldest-shaped = record {
-    queue = length-append left (zeros placeSize) ∙ rw length-left;
-    out = length-take placeSize (vlr .queue) ∙ (let a = s .queue in omega arith);
-  }
+  oldest-first = refl
 
   pub oldest-rest : (k : ℕ) → suc k < mostHeld → placeAt (oldestOut vlr .queue) k ≡ placeAt (vlr .queue) (suc k)
   unfolding oldestOut
@@ -155,9 +152,20 @@ module _ (vlr : Vlr) (s : Shaped vlr) where
         absent = λ other. absurd (other refl);
       }
 
+  pub oldest-shaped : Shaped (oldestOut vlr)
+  unfolding oldestOut
+  oldest-shaped = record {
+    queue = length-append left (zeros placeSize) ∙ rw length-left;
+    out = length-take placeSize (vlr .queue) ∙ (let a = s .queue in omega arith);
+  }
+
 -- ---- none outstanding
 
 module _ (to : State) (vlr : Vlr) where
+  pub none-left : Left to vlr (noneOut to vlr)
+  unfolding noneOut
+  none-left = record { state = refl; out = refl; held = refl; queue = refl }
+
   pub none-shaped : Shaped vlr → Shaped (noneOut to vlr)
   unfolding noneOut
   none-shaped s = record { queue = s .queue; out = length-zeros placeSize }
@@ -165,7 +173,3 @@ module _ (to : State) (vlr : Vlr) where
   pub none-valid : Valid vlr → Valid (noneOut to vlr)
   unfolding noneOut
   none-valid v = record { held = v .held; unused = v .unused; absent = λ other. all-zeros placeSize }
-
-  pub none-left : Left to vlr (noneOut to vlr)
-  unfolding noneOut
-  none-left = record { state = refl; out = refl; held = refl; queue = refl }

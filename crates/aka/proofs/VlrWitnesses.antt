@@ -32,8 +32,8 @@ two n = one n ++ one (n + 1)
 abbrev auts : Octets
 auts = replicate 14 9
 
--- 1 and 2 are stored and asked, one answered wrongly in the last octet and one rightly; 3 and 4 are asked, one rejected and one answered with
--- AUTS, while 5 and 6 are stored; a timeout keeps them; 5 is asked, and its AUTS leads to 8 and 9 in place of 6
+-- 1 and 2 are stored and asked, one answered wrongly in the last octet and one rightly; 3 and 4 are asked, one rejected and one answered
+-- with AUTS, while 5 and 6 are stored; a timeout keeps them; 5 is asked, and its AUTS leads to 8 and 9 in place of 6
 abbrev calls : List Call
 calls =
     ask
@@ -98,8 +98,8 @@ recordWith state held place out = record {
 pub record Computed : Type 0 where
   -- each outcome occurs
   pub outcomes : map (λ s. s .answer .outcome) walk
-      ≡ refused 8 ∷ refused 2 ∷ refused 3 ∷ done ∷ refused 7 ∷ done ∷ done ∷ cause 2 ∷ done ∷ passed ∷ done ∷ done ∷ cause 1 ∷ done ∷ done ∷ done
-      ∷ refused 7 ∷ done ∷ done ∷ done ∷ done ∷ done ∷ done ∷ []
+      ≡ refused 8 ∷ refused 2 ∷ refused 3 ∷ done ∷ refused 7 ∷ done ∷ done ∷ cause 2 ∷ done ∷ passed ∷ done ∷ done ∷ cause 1 ∷ done ∷ done
+      ∷ done ∷ refused 7 ∷ done ∷ done ∷ done ∷ done ∷ done ∷ done ∷ []
   -- which vectors' RAND, AUTN and CK are given (0: none), and how many are held
   pub rands : map (λ s. getD (s .answer .rand) 0 0) walk
       ≡ 0 ∷ 0 ∷ 0 ∷ 0 ∷ 0 ∷ 1 ∷ 1 ∷ 0 ∷ 2 ∷ 0 ∷ 0 ∷ 3 ∷ 0 ∷ 4 ∷ 0 ∷ 4 ∷ 0 ∷ 0 ∷ 5 ∷ 5 ∷ 0 ∷ 8 ∷ 0 ∷ []

@@ -34,15 +34,15 @@ pub record Terms : Type 1 where
 abbrev pub Any : Type 0
 Any = Unit {0}
 
+abbrev terms : (count part state held : Type 0) → Terms
+terms count part state held = record { count = count; part = part; state = state; held = held }
+
+-- a batch has a count of 1 to 5, and as many vectors
+abbrev batchTerms : (count : ℕ) (batch : Octets) (state held : Type 0) → Terms
+batchTerms count batch state held = terms ((1 ≤ count) × (count ≤ mostVectors)) (length batch ≡ placeSize * count) state held
+
+-- of a node in state s that holds n vectors
 module _ (s : State) (n : ℕ) where
-  abbrev terms : (count part state held : Type 0) → Terms
-  terms count part state held = record { count = count; part = part; state = state; held = held }
-
-  -- a batch has a count of 1 to 5, and as many vectors
-  abbrev batchTerms : (count : ℕ) (batch : Octets) (state held : Type 0) → Terms
-  batchTerms count batch state held = terms ((1 ≤ count) × (count ≤ mostVectors)) (length batch ≡ placeSize * count) state held
-
-  -- of a node in state s that holds n vectors
   abbrev pub termsOf : Call → Terms
   termsOf (store count batch) = batchTerms count batch ((s ≡ idle) ⊎ (s ≡ asked)) (n + count ≤ mostHeld)
   termsOf (renew count batch) = batchTerms count batch (s ≡ resyncing) Any

@@ -7,7 +7,7 @@ use Rattle.aka.specs.Calls.{Call, reply}
 use Rattle.aka.specs.OrderOfUse.{Handled, InOrder, nothingYet, answers}
 use Rattle.aka.proofs.OrderOfUse.{order-of-use}
 use Rattle.vlr_record.specs.declared.Vlr.{Vlr}
-use Rattle.vlr_record.specs.Views.{vlrOf, answerOf}
+use Rattle.vlr_record.specs.Views.{vlrOf}
 use Rattle.order_of_use.specs.Running.{Ran, Chain, handledOf, OrderOfUse}
 
 abbrev callOf : Ran → Call

@@ -2,14 +2,14 @@
 -- again and answered rightly; the second is asked and its AUTS handed on; a third comes in their place. Assumes nothing.
 use Prim.Native.Nat.{ℕ, _+_, _*_}
 use mathlib.Core.List.{List, [], _∷_, _++_, map}
-use mathlib.Core.Path.{_≡_, refl}
+use mathlib.Core.Path.{refl}
 use lib.ListN.{replicate}
 use Rattle.octets.specs.Octets.{Octets, zeros, equal}
 use Rattle.aka.specs.Layout.{Vector, writeVector, readVector}
-use Rattle.aka.specs.Vlr.{mostHeld, placeSize, allZero, validVlr, countFits, batchFits, refusalOr, unlessRefused, queued, oldestOut, noneOut}
-use Rattle.aka.specs.Vlr.{request, storeRefusal, askRefusal, askedRefusal, resRight, passIf, resyncRequest, renewRefusal, timeoutRefusal}
+use Rattle.aka.specs.Vlr.{placeSize, allZero, validVlr, countFits, batchFits, refusalOr, unlessRefused, queued, oldestOut, noneOut}
+use Rattle.aka.specs.Vlr.{request, storeRefusal, askRefusal, askedRefusal, resRight, passIf, resyncRequest, renewRefusal}
 use Rattle.aka.specs.Vlr as node
-use Rattle.aka.specs.Calls.{store, renew, ask, again, answer, sync, reject, timeout, abandon}
+use Rattle.aka.specs.Calls.{store, renew, ask, again, answer, sync}
 use Rattle.aka.specs.OrderOfUse.{InOrder, nothingYet}
 use Rattle.vlr_record.specs.declared.Vlr.{Vlr}
 use Rattle.vlr_record.specs.declared.Reply.{Reply}
@@ -120,8 +120,8 @@ new = refl
 
 chain : Chain fresh calls
 unfolding Chain node.store node.renew node.ask node.again node.answer node.sync storeRefusal askRefusal askedRefusal renewRefusal
-    unlessRefused refusalOr validVlr allZero countFits batchFits queued oldestOut noneOut request resRight passIf resyncRequest equal readVector
-    writeVector
+    unlessRefused refusalOr validVlr allZero countFits batchFits queued oldestOut noneOut request resRight passIf resyncRequest equal
+    readVector writeVector
 chain = (refl, (refl, (refl, (refl, (refl, (refl, (refl, (refl, (refl, tt)))))))))
 
 pub ran : InOrder nothingYet (map handledOf calls)

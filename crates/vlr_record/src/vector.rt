@@ -1,13 +1,13 @@
 // The parts of a vector, read from its octets.
 ghost use mathlib.Core.Path.{_≡_};
-ghost use Prim.Native.Nat.{_≤_};
+ghost use Prim.Native.Nat.{_+_, _≤_};
 ghost use lib.ListN.{length};
 ghost use Rattle.octets.specs.Octets.{part};
-ghost use Rattle.aka.specs.Layout.{readVector};
+ghost use Rattle.aka.specs.Layout.{readVector, resSize, vectorSize};
 
 // Sixteen octets from `at` on.
 fn sixteen(vector: [u8; aka::VECTOR_SIZE], at: usize) -> [u8; 16]
-    requires { ⌜ at ≤ 56 ⌝ }
+    requires { ⌜ at + 16 ≤ vectorSize ⌝ }
     ensures { λ r. ⌜ r ≡ part at 16 vector ⌝ }
 {
     octets::sixteen(&vector[at..at + 16])
@@ -45,7 +45,7 @@ pub fn autn(vector: [u8; aka::VECTOR_SIZE]) -> [u8; aka::AUTN_SIZE]
 
 // A RES lent.
 pub fn res(lent: &[u8]) -> [u8; aka::RES_SIZE]
-    requires { ⌜ length (now lent) ≡ 8 ⌝ }
+    requires { ⌜ length (now lent) ≡ resSize ⌝ }
     ensures { λ r. ⌜ r ≡ now (lent .entry) ⌝ }
 {
     let mut octets = [0u8; aka::RES_SIZE];

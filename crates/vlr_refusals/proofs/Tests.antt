@@ -12,7 +12,8 @@ whole size count h = go (eqb (size / placeSize) count) refl
   where
     go : (b : Bool) → eqb (size / placeSize) count ≡ b → b ≡ eqb size (placeSize * count)
     go true e = sym (eq-eqb size (placeSize * count) (omega (arith, eqb-true (size / placeSize) count e)))
-    go false e = sym (ne-eqb size (placeSize * count) (λ (same : size ≡ placeSize * count). eqb-false (size / placeSize) count e (omega arith)))
+    go false e = sym (ne-eqb size (placeSize * count)
+        (λ (same : size ≡ placeSize * count). eqb-false (size / placeSize) count e (omega arith)))
 
 pub broken : (size count : ℕ) → (size % placeSize ≡ 0 → ⊥) → eqb size (placeSize * count) ≡ false
 broken size count h = ne-eqb size (placeSize * count) (λ (same : size ≡ placeSize * count). h (omega arith))

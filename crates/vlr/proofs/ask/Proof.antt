@@ -17,8 +17,9 @@ oldest-out-requires c κs = ask-held _ (sym (c .before .ask-refusal .ensures) �
 returns-2 : tie.Need-returns-2
 unfolding ask
 returns-2 c =
-    none _ _ (c .before .before .before .ask-refusal .ensures) (c .before .before .if1 .left)
-    (c .request .ensures ∙ ap request (c .before .oldest-out .ensures))
+    let next = c .before in
+    let test = next .before in
+    none _ _ (test .before .ask-refusal .ensures) (test .if1 .left) (c .request .ensures ∙ ap request (next .oldest-out .ensures))
 
 pub ask-spec : {M : Type 1} → statement M
 ask-spec =

@@ -20,10 +20,13 @@ queued-requires c κs =
 returns-2 : tie.Need-returns-2
 unfolding renew
 returns-2 c =
-    let args = c .before .before .before .before .before .before .args in
-    none _ _ (c .before .before .before .before .renew-refusal .ensures) (c .before .before .before .if1 .left)
+    let next = c .before in
+    let new = next .before in
+    let test = new .before in
+    let args = test .before .before .before .args in
+    none _ _ (test .before .renew-refusal .ensures) (test .if1 .left)
     (c .no-octets2 .ensures ∙ ap (λ (v : Vlr). noOctets done v)
-    (c .before .queued .ensures ∙ ap (λ (v : Vlr). queued v (args .count) (args .batch .now)) (c .before .before .new .ensures)))
+    (next .queued .ensures ∙ ap (λ (v : Vlr). queued v (args .count) (args .batch .now)) (new .new .ensures)))
 
 pub renew-spec : {M : Type 1} → statement M
 renew-spec =

@@ -17,8 +17,10 @@ queued-requires c κs = store-fits _ _ _ (sym (c .before .store-refusal .ensures
 returns-2 : tie.Need-returns-2
 unfolding store
 returns-2 c =
-    none _ _ (c .before .before .before .store-refusal .ensures) (c .before .before .if1 .left)
-    (c .no-octets2 .ensures ∙ ap (λ (v : Vlr). noOctets done v) (c .before .queued .ensures))
+    let next = c .before in
+    let test = next .before in
+    none _ _ (test .before .store-refusal .ensures) (test .if1 .left)
+    (c .no-octets2 .ensures ∙ ap (λ (v : Vlr). noOctets done v) (next .queued .ensures))
 
 pub store-spec : {M : Type 1} → statement M
 store-spec =

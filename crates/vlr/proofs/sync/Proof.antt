@@ -1,5 +1,6 @@
 -- `sync` is the whole answer: the refusal, else RAND with AUTS. Assumes nothing.
 use mathlib.Core.Path.{sym, _∙_}
+use Rattle.aka.specs.Layout.{autsSize}
 use Rattle.aka.specs.Vlr.{sync}
 use Rattle.vlr_steps.proofs.Refused.{refusal, none}
 use Rattle.vlr_refusals.proofs.Refusals.{asked-length}
@@ -12,7 +13,9 @@ unfolding sync
 returns c = refusal _ _ (c .before .before .asked-refusal .ensures) (c .before .if1 .taken) (c .no-octets .ensures)
 
 resync-request-requires : tie.Need-resync-request-requires
-resync-request-requires c κs = asked-length _ (c .before .before .before .args .auts .now) 14 (sym (c .before .asked-refusal .ensures) ∙ c .if1 .left)
+resync-request-requires c κs =
+    let entry = c .before .before .before in
+    asked-length _ (entry .args .auts .now) autsSize (sym (c .before .asked-refusal .ensures) ∙ c .if1 .left)
 
 returns-2 : tie.Need-returns-2
 unfolding sync

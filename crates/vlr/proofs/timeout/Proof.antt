@@ -10,9 +10,11 @@ use Rattle.vlr.proofs.timeout.Tie as tie
 returns : tie.Need-returns
 unfolding timeout
 returns c =
-    let vlr = vlrOf (c .before .before .before .args .vlr) in
+    let done = c .before in
+    let number = done .before in
+    let vlr = vlrOf (number .before .args .vlr) in
     c .unless-refused .ensures
-    ∙ ap₂ (λ (n : ℕ) (a : VlrAnswer). unlessRefused vlr n a) (c .before .before .timeout-refusal .ensures) (c .before .to-idle .ensures)
+    ∙ ap₂ (λ (n : ℕ) (a : VlrAnswer). unlessRefused vlr n a) (number .timeout-refusal .ensures) (done .to-idle .ensures)
 
 pub timeout-spec : {M : Type 1} → statement M
 timeout-spec = tie.close (tie.spec (λ c κs. search needs) (λ c κs. search needs) (λ c κs. search needs) returns)

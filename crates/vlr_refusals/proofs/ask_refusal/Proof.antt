@@ -11,14 +11,16 @@ use Rattle.vlr_refusals.proofs.ask_refusal.Tie as tie
 returns : tie.Need-returns
 unfolding askRefusal
 returns c =
-    refusal-is _ _ _ (c .refusal-or .ensures) (c .before .before .before .is-idle .ensures)
-    (ap (λ (b : Bool). cond b 8 0) (sym (eq-eqb (c .before .before .before .before .args .vlr .held) 0 (c .before .if1 .taken))))
+    let state = c .before .before .before in
+    refusal-is _ _ _ (c .refusal-or .ensures) (state .is-idle .ensures)
+    (ap (λ (b : Bool). cond b 8 0) (sym (eq-eqb (state .before .args .vlr .held) 0 (c .before .if1 .taken))))
 
 returns-2 : tie.Need-returns-2
 unfolding askRefusal
 returns-2 c =
-    refusal-is _ _ _ (c .refusal-or2 .ensures) (c .before .before .before .is-idle .ensures)
-    (ap (λ (b : Bool). cond b 8 0) (sym (ne-eqb (c .before .before .before .before .args .vlr .held) 0 (c .before .if1 .left))))
+    let state = c .before .before .before in
+    refusal-is _ _ _ (c .refusal-or2 .ensures) (state .is-idle .ensures)
+    (ap (λ (b : Bool). cond b 8 0) (sym (ne-eqb (state .before .args .vlr .held) 0 (c .before .if1 .left))))
 
 pub ask-refusal-spec : {M : Type 1} → statement M
 ask-refusal-spec = tie.close (tie.spec (λ c κs. search needs) (λ c κs. search needs) returns (λ c κs. search needs) returns-2)

@@ -1,5 +1,5 @@
 -- `refusal_or` is `refusalOr`: one way through it for each number. Assumes nothing.
-use mathlib.Core.Bool.{Bool, true, false}
+use mathlib.Core.Bool.{true, false}
 use mathlib.Core.Path.{_≡_, refl, sym, _∙_}
 use borrow.Author.Tests.{not-true, not-false}
 use Rattle.aka.specs.Vlr.{validVlr, refusalOr}

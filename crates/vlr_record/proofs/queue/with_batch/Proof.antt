@@ -2,6 +2,7 @@
 use Prim.Native.Nat.{_*_}
 use native.Mathlib.Omega.{arith}
 use Rattle.octets.proofs.Copies.{copied-at}
+use Rattle.aka.specs.Vlr.{mostHeld, placeSize}
 use borrow.Author.Needs.{needs}
 use Rattle.vlr_record.proofs.queue.with_batch.Statement.{statement}
 use Rattle.vlr_record.proofs.queue.with_batch.Tie as tie
@@ -9,7 +10,8 @@ use Rattle.vlr_record.proofs.queue.with_batch.Tie as tie
 returns : tie.Need-returns
 returns c =
     let entry = c .before .before .before .before in
-    copied-at (entry .args .batch .now) (entry .args .queue) (72 * entry .args .held) 1152 (entry .good .0 .1 .0 .1)
+    let args = entry .args in
+    copied-at (args .batch .now) (args .queue) (placeSize * args .held) (placeSize * mostHeld) (entry .good .0 .1 .0 .1)
     (c .before .copy .ensures .1) (omega arith)
 
 pub with-batch-spec : {M : Type 1} → statement M

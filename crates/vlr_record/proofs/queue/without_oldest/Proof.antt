@@ -1,8 +1,10 @@
 -- `without_oldest` is the other places, and one of zeros. Assumes nothing.
+use Prim.Native.Nat.{_*_, _-_}
 use native.Mathlib.Omega.{arith}
 use lib.ListN.{take, drop, length-drop}
 use Rattle.octets.specs.Octets.{zeros}
 use Rattle.octets.proofs.Copies.{copied, rest}
+use Rattle.aka.specs.Vlr.{mostHeld, placeSize}
 use borrow.Author.Needs.{needs}
 use Rattle.vlr_record.proofs.queue.without_oldest.Statement.{statement}
 use Rattle.vlr_record.proofs.queue.without_oldest.Tie as tie
@@ -10,10 +12,11 @@ use Rattle.vlr_record.proofs.queue.without_oldest.Tie as tie
 returns : tie.Need-returns
 returns c =
     let entry = c .before .before .before .before .before in
-    let places = entry .args .t1 in
+    let queue = entry .args .t1 in
     let size = entry .good .0 .1 .0 .1 in
-    copied (take 1080 (drop 72 places)) (zeros 1152) 1080 (c .before .copy .ensures .1) (rest places 72 1152 size)
-    (omega (arith, length-drop 72 places, size))
+    let moved = placeSize * (mostHeld - 1) in
+    copied (take moved (drop placeSize queue)) (zeros (placeSize * mostHeld)) moved (c .before .copy .ensures .1)
+    (rest queue placeSize (placeSize * mostHeld) size) (omega (arith, length-drop placeSize queue, size))
 
 pub without-oldest-spec : {M : Type 1} → statement M
 without-oldest-spec =
