@@ -128,14 +128,6 @@ module _ (vlr : Vlr) (s : Shaped vlr) where
   unfolding oldestOut
   oldest-first = refl
 
-  pub oldest-rest : (k : ℕ) → suc k < mostHeld → placeAt (oldestOut vlr .queue) k ≡ placeAt (vlr .queue) (suc k)
-  unfolding oldestOut
-  oldest-rest k h =
-      let at : placeSize + placeSize * k ≡ placeSize * suc k = omega arith in
-      part-before (placeSize * k) placeSize left (zeros placeSize) (rw length-left (omega arith))
-      ∙ ap (take placeSize) (drop-drop (placeSize * k) placeSize (vlr .queue))
-      ∙ ap (λ (n : ℕ). part n placeSize (vlr .queue)) at
-
   pub oldest-valid : 0 < vlr .held → Valid vlr → Valid (oldestOut vlr)
   unfolding oldestOut
   oldest-valid h v =
@@ -151,6 +143,14 @@ module _ (vlr : Vlr) (s : Shaped vlr) where
             ∙ zero-append (drop (placeSize * vlr .held) (vlr .queue)) (zeros placeSize) (v .unused) (all-zeros placeSize);
         absent = λ other. absurd (other refl);
       }
+
+  pub oldest-rest : (k : ℕ) → suc k < mostHeld → placeAt (oldestOut vlr .queue) k ≡ placeAt (vlr .queue) (suc k)
+  unfolding oldestOut
+  oldest-rest k h =
+      let at : placeSize + placeSize * k ≡ placeSize * suc k = omega arith in
+      part-before (placeSize * k) placeSize left (zeros placeSize) (rw length-left (omega arith))
+      ∙ ap (take placeSize) (drop-drop (placeSize * k) placeSize (vlr .queue))
+      ∙ ap (λ (n : ℕ). part n placeSize (vlr .queue)) at
 
   pub oldest-shaped : Shaped (oldestOut vlr)
   unfolding oldestOut
