@@ -14,7 +14,7 @@ use Rattle.aka.specs.Calls.{Call, reply, store, renew, ask, again, answe
 use Rattle.aka.specs.OrderOfUse.{History, Handled, nothingYet, isIn, isUnused, unusedFrom, unused, after, answers}
 
 -- the vector whose RAND is n in each octet, its other parts different
-abbrev vector : ℕ → Vector
+abbrev pub vector : ℕ → Vector
 vector n = record {
   rand = replicate 16 n;
   xres = replicate 8 (n + 50);
@@ -23,7 +23,7 @@ vector n = record {
   autn = replicate 16 (n + 200);
 }
 
-abbrev one : ℕ → Octets
+abbrev pub one : ℕ → Octets
 one n = writeVector (vector n)
 
 abbrev two : ℕ → Octets

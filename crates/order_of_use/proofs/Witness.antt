@@ -1,16 +1,17 @@
 -- The theorem is not empty: the code's own records and answers of one list of calls. Two vectors are stored; the first is asked, asked
 -- again and answered rightly; the second is asked and its AUTS handed on; a third comes in their place. Assumes nothing.
-use Prim.Native.Nat.{ℕ, _+_, _*_}
+use Prim.Native.Nat.{ℕ, _*_}
 use mathlib.Core.List.{List, [], _∷_, _++_, map}
 use mathlib.Core.Path.{refl}
 use lib.ListN.{replicate}
 use Rattle.octets.specs.Octets.{Octets, zeros, equal}
-use Rattle.aka.specs.Layout.{Vector, writeVector, readVector}
+use Rattle.aka.specs.Layout.{writeVector, readVector}
 use Rattle.aka.specs.Vlr.{placeSize, allZero, validVlr, countFits, batchFits, refusalOr, unlessRefused, queued, oldestOut, noneOut}
 use Rattle.aka.specs.Vlr.{request, storeRefusal, askRefusal, askedRefusal, resRight, passIf, resyncRequest, renewRefusal}
 use Rattle.aka.specs.Vlr as node
 use Rattle.aka.specs.Calls.{store, renew, ask, again, answer, sync}
 use Rattle.aka.specs.OrderOfUse.{InOrder, nothingYet}
+use Rattle.aka.proofs.VlrWitnesses.{vector, one}
 use Rattle.vlr_record.specs.declared.Vlr.{Vlr}
 use Rattle.vlr_record.specs.declared.Reply.{Reply}
 use Rattle.vlr_record.specs.declared.State.{State}
@@ -19,19 +20,6 @@ use Rattle.vlr_record.specs.declared.Outcome.{Outcome}
 use Rattle.vlr_record.specs.declared.Outcome.the-variants.{Done, Passed, Refused}
 use Rattle.order_of_use.specs.Running.{New, Ran, Chain, handledOf}
 use Rattle.order_of_use.proofs.Running.{running}
-
--- the vector whose RAND is n in each octet, its other parts different
-abbrev vector : ℕ → Vector
-vector n = record {
-  rand = replicate 16 n;
-  xres = replicate 8 (n + 50);
-  ck = replicate 16 (n + 100);
-  ik = replicate 16 (n + 150);
-  autn = replicate 16 (n + 200);
-}
-
-abbrev one : ℕ → Octets
-one n = writeVector (vector n)
 
 -- a record that holds these vectors
 abbrev recordWith : State → (held : ℕ) (vectors : Octets) (left : ℕ) (out : Octets) → Vlr
