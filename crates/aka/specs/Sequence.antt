@@ -1,5 +1,5 @@
 -- Sequence numbers: SQN has 48 bits, SEQ above IND. Definitions and theorems take any width `w` of IND in bits. Assumes nothing.
-use Prim.Native.Nat.{ℕ, _+_, _-_, _*_, _/_, _%_, _^_}
+use Prim.Native.Nat.{ℕ, _+_, _-_, _*_, _/_, _%_, _^_, _<_}
 
 -- the largest jump
 abbrev pub D : ℕ
@@ -12,6 +12,10 @@ width = 5
 -- the bits of an SQN
 abbrev pub sqnBits : ℕ
 sqnBits = 48
+
+-- a number that an SQN can be
+abbrev pub FitsSqn : ℕ → Type 0
+FitsSqn sqn = sqn < 2 ^ sqnBits
 
 module _ (w : ℕ) where
   -- the number of indices

@@ -6,6 +6,9 @@
 // The number of indices: SQN = INDICES x SEQ + IND.
 pub const INDICES: u64 = 32;
 
+// The places of the card: one for each index.
+pub const PLACES: usize = INDICES as usize;
+
 // The bits of a SEQ.
 pub const SEQ_BITS: u64 = 43;
 
@@ -17,6 +20,9 @@ pub const D: u64 = 268435456;
 
 // ---- sizes, in octets (specs/Layout)
 
+// K and OPc.
+pub const KEY_SIZE: usize = 16;
+
 pub const RAND_SIZE: usize = 16;
 
 pub const RES_SIZE: usize = 8;
@@ -25,9 +31,23 @@ pub const CK_SIZE: usize = 16;
 
 pub const IK_SIZE: usize = 16;
 
-pub const AUTN_SIZE: usize = 16;
+// SQN and SQN_MS, AK and AK*.
+pub const SQN_SIZE: usize = 6;
 
-pub const AUTS_SIZE: usize = 14;
+pub const AMF_SIZE: usize = 2;
+
+// MAC and MAC-S.
+pub const MAC_SIZE: usize = 8;
+
+// AUTN: SQN xor AK, AMF, MAC; where AMF and MAC begin.
+pub const AMF_AT: usize = SQN_SIZE;
+
+pub const MAC_AT: usize = AMF_AT + AMF_SIZE;
+
+pub const AUTN_SIZE: usize = MAC_AT + MAC_SIZE;
+
+// AUTS: SQN_MS xor AK*, MAC-S.
+pub const AUTS_SIZE: usize = SQN_SIZE + MAC_SIZE;
 
 // ---- a vector: where its parts begin, and its size; RAND stands first
 

@@ -1,23 +1,24 @@
 // The octets of AUTN and AUTS, and the SQN in them: what USIM and AuC share.
 ghost use mathlib.Core.Path.{_≡_};
-ghost use Prim.Native.Nat.{_<_, _^_};
+ghost use Prim.Native.Nat.{_<_};
 ghost use Rattle.octets.specs.Octets.{xor, equal, encode, decode};
-ghost use Rattle.aka.specs.Layout.{readAutn, writeAutn, readAuts, writeAuts};
+ghost use Rattle.aka.specs.Layout.{sqnSize, readAutn, writeAutn, readAuts, writeAuts};
+ghost use Rattle.aka.specs.Sequence.{FitsSqn};
 
-// Whether two strings are the same. It looks at all octets whatever they are.
-pub fn same(x: [u8; 8], y: [u8; 8]) -> bool
+// Whether two MACs, or RES and XRES, are equal. All octets are looked at, whatever they are: the time tells nothing of where they differ.
+pub fn equal_without_early_end(x: [u8; aka::MAC_SIZE], y: [u8; aka::MAC_SIZE]) -> bool
     ensures { λ r. ⌜ r ≡ equal x y ⌝ }
 {
     let mut differences: u8 = 0;
     let mut i: usize = 0;
-    while i < 8 {
+    while i < aka::MAC_SIZE {
         differences = differences | (x[i] ^ y[i]);
         i += 1;
     }
     differences == 0
 }
 
-fn xor6(x: [u8; 6], y: [u8; 6]) -> [u8; 6]
+fn xor6(x: [u8; aka::SQN_SIZE], y: [u8; aka::SQN_SIZE]) -> [u8; aka::SQN_SIZE]
     ensures { λ r. ⌜ r ≡ xor x y ⌝ }
 {
     [
@@ -37,8 +38,8 @@ fn wide(x: u8) -> u64
 }
 
 // The number that the octets of an SQN spell.
-pub fn sqn_number(x: [u8; 6]) -> u64
-    ensures { λ r. ⌜ (r ≡ decode x) × (r < 2 ^ 48) ⌝ }
+pub fn sqn_number(x: [u8; aka::SQN_SIZE]) -> u64
+    ensures { λ r. ⌜ (r ≡ decode x) × FitsSqn r ⌝ }
 {
     let a = wide(x[0]);
     let b = a * 256 + wide(x[1]);
@@ -49,8 +50,8 @@ pub fn sqn_number(x: [u8; 6]) -> u64
 }
 
 // A number as the octets of an SQN.
-pub fn sqn_octets(x: u64) -> [u8; 6]
-    ensures { λ r. ⌜ r ≡ encode 6 x ⌝ }
+pub fn sqn_octets(x: u64) -> [u8; aka::SQN_SIZE]
+    ensures { λ r. ⌜ r ≡ encode sqnSize x ⌝ }
 {
     let e = x / 256;
     let d = e / 256;
@@ -68,54 +69,63 @@ pub fn sqn_octets(x: u64) -> [u8; 6]
 }
 
 // SQN, which AUTN conceals with AK.
-pub fn sqn_in(autn: [u8; 16], ak: [u8; 6]) -> [u8; 6]
+pub fn sqn_in(autn: [u8; aka::AUTN_SIZE], ak: [u8; aka::SQN_SIZE]) -> [u8; aka::SQN_SIZE]
     ensures { λ r. ⌜ r ≡ xor (readAutn autn .concealed) ak ⌝ }
 {
     xor6(octets::six(autn, 0), ak)
 }
 
 // The AMF of AUTN.
-pub fn amf_in(autn: [u8; 16]) -> [u8; 2]
+pub fn amf_in(autn: [u8; aka::AUTN_SIZE]) -> [u8; aka::AMF_SIZE]
     ensures { λ r. ⌜ r ≡ readAutn autn .amf ⌝ }
 {
-    [autn[6], autn[7]]
+    [autn[aka::AMF_AT], autn[aka::AMF_AT + 1]]
 }
 
 // AUTS: SQN_MS concealed with AK*, then MAC-S.
-pub fn auts(sqn: [u8; 6], ak: [u8; 6], mac: [u8; 8]) -> [u8; 14]
-    ensures { λ r. ⌜ r ≡ writeAuts (record { concealed = xor sqn ak; mac = mac }) ⌝ }
+pub fn auts(
+    sqnms: [u8; aka::SQN_SIZE],
+    akstar: [u8; aka::SQN_SIZE],
+    macs: [u8; aka::MAC_SIZE],
+) -> [u8; aka::AUTS_SIZE]
+    ensures { λ r. ⌜ r ≡ writeAuts (record { concealed = xor sqnms akstar; mac = macs }) ⌝ }
 {
-    let c = xor6(sqn, ak);
+    let concealed = xor6(sqnms, akstar);
     [
-        c[0],
-        c[1],
-        c[2],
-        c[3],
-        c[4],
-        c[5],
-        mac[0],
-        mac[1],
-        mac[2],
-        mac[3],
-        mac[4],
-        mac[5],
-        mac[6],
-        mac[7],
+        concealed[0],
+        concealed[1],
+        concealed[2],
+        concealed[3],
+        concealed[4],
+        concealed[5],
+        macs[0],
+        macs[1],
+        macs[2],
+        macs[3],
+        macs[4],
+        macs[5],
+        macs[6],
+        macs[7],
     ]
 }
 
 // AUTN: SQN concealed with AK, then AMF and MAC.
-pub fn autn(sqn: [u8; 6], ak: [u8; 6], amf: [u8; 2], mac: [u8; 8]) -> [u8; 16]
+pub fn autn(
+    sqn: [u8; aka::SQN_SIZE],
+    ak: [u8; aka::SQN_SIZE],
+    amf: [u8; aka::AMF_SIZE],
+    mac: [u8; aka::MAC_SIZE],
+) -> [u8; aka::AUTN_SIZE]
     ensures { λ r. ⌜ r ≡ writeAutn (record { concealed = xor sqn ak; amf = amf; mac = mac }) ⌝ }
 {
-    let c = xor6(sqn, ak);
+    let concealed = xor6(sqn, ak);
     [
-        c[0],
-        c[1],
-        c[2],
-        c[3],
-        c[4],
-        c[5],
+        concealed[0],
+        concealed[1],
+        concealed[2],
+        concealed[3],
+        concealed[4],
+        concealed[5],
         amf[0],
         amf[1],
         mac[0],
@@ -130,14 +140,17 @@ pub fn autn(sqn: [u8; 6], ak: [u8; 6], amf: [u8; 2], mac: [u8; 8]) -> [u8; 16]
 }
 
 // SQN_MS, which AUTS conceals with AK*.
-pub fn sqn_ms_in(auts: [u8; 14], ak: [u8; 6]) -> [u8; 6]
-    ensures { λ r. ⌜ r ≡ xor (readAuts auts .concealed) ak ⌝ }
+pub fn sqn_ms_in(auts: [u8; aka::AUTS_SIZE], akstar: [u8; aka::SQN_SIZE]) -> [u8; aka::SQN_SIZE]
+    ensures { λ r. ⌜ r ≡ xor (readAuts auts .concealed) akstar ⌝ }
 {
-    xor6([auts[0], auts[1], auts[2], auts[3], auts[4], auts[5]], ak)
+    xor6(
+        [auts[0], auts[1], auts[2], auts[3], auts[4], auts[5]],
+        akstar,
+    )
 }
 
-// The MAC-S of AUTS.
-pub fn mac_s_in(auts: [u8; 14]) -> [u8; 8]
+// The MAC-S of AUTS: what stands behind SQN_MS.
+pub fn mac_s_in(auts: [u8; aka::AUTS_SIZE]) -> [u8; aka::MAC_SIZE]
     ensures { λ r. ⌜ r ≡ readAuts auts .mac ⌝ }
 {
     [

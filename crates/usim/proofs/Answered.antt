@@ -1,27 +1,36 @@
 -- From the answer for a verdict to the whole answer. Assumes nothing.
-use Prim.Native.Nat.{ℕ, _<_, _^_}
+use Prim.Native.Nat.{ℕ}
+use mathlib.Core.Path.{_≡_, refl, sym, _∙_}
 use native.Mathlib.Omega.{arith}
-use mathlib.Core.Path.{_≡_, sym, _∙_}
 use Rattle.octets.specs.Octets.{Octets, zeros}
 use Rattle.functions.specs.Sets.{sets}
+use Rattle.aka.specs.Layout.{autsSize}
 use Rattle.aka.specs.Usim.{Usim, Verdict, refused, unchanged, answerWith, challenge}
-use Rattle.aka.proofs.Verdicts.{answer-of}
 use Rattle.aka.specs.Sequence.{width}
+use Rattle.aka.proofs.Verdicts.{answer-of}
 use Rattle.usim_record.specs.declared.Answer.{Answer}
+use Rattle.usim_record.specs.declared.Verdict as code
 use Rattle.usim_record.specs.declared.Verdict.the-variants.{Refused}
-use Rattle.usim_record.specs.Views.{verdictOf, answerOf, sqnGiven, sqnDue}
-use Rattle.usim_accept.specs.Steps.{Answers}
+use Rattle.usim_record.specs.Views.{verdictOf, answerOf, sqnGiven, sqnDue, SqnTold}
+use Rattle.usim.specs.Judging.{AnswerFor}
 
 module _ (usim : Usim) (rand autn : Octets) (r : Answer) where
-  abbrev Whole : Type 0
-  Whole =
-      (answerOf r ≡ challenge width sets usim rand autn)
-      × ((sqnGiven (r .verdict) ≡ sqnDue (verdictOf (r .verdict)) usim rand autn) × (sqnGiven (r .verdict) < 2 ^ 48))
+  -- a verdict that gives no SQN, and changes nothing
+  pub unchanged-for : (v : code.Verdict) (auts : Octets) → sqnGiven v ≡ 0 → sqnDue (verdictOf v) usim rand autn ≡ 0
+      → answerWith width sets usim rand autn (verdictOf v) ≡ unchanged (verdictOf v) usim auts
+      → (answerOf r ≡ unchanged (verdictOf v) usim auts) × (r .verdict ≡ v) → AnswerFor usim rand autn (verdictOf v) r
+  unchanged-for v auts none undue with-it is = record {
+    answer = is .0 ∙ sym with-it;
+    sqn = rw (is .1) (none ∙ sym undue, rw none (omega arith));
+  }
 
-  pub answered : (v : Verdict) → challenge width sets usim rand autn .verdict ≡ v → Answers usim rand autn v r → Whole
-  answered v e a = (a .answer ∙ sym (answer-of width sets usim rand autn v e), (a .sqn, a .fits))
+  abbrev Whole : Type 0
+  Whole = (answerOf r ≡ challenge width sets usim rand autn) × SqnTold (r .verdict) usim rand autn
+
+  pub answered : (v : Verdict) → challenge width sets usim rand autn .verdict ≡ v → AnswerFor usim rand autn v r → Whole
+  answered v e a = (a .answer ∙ sym (answer-of width sets usim rand autn v e), a .sqn)
 
   pub refusal : (n : ℕ) → challenge width sets usim rand autn .verdict ≡ refused n
-      → (answerOf r ≡ unchanged (refused n) usim (zeros 14)) × (r .verdict ≡ Refused n) → Whole
+      → (answerOf r ≡ unchanged (refused n) usim (zeros autsSize)) × (r .verdict ≡ Refused n) → Whole
   unfolding answerWith
-  refusal n e a = answered (refused n) e (record { answer = a .0; sqn = rw (a .1); fits = rw (a .1) (omega arith) })
+  refusal n e is = answered (refused n) e (unchanged-for (Refused n) (zeros autsSize) refl refl refl is)

@@ -1,8 +1,10 @@
 -- The code's values as the protocol has them. Assumes nothing: these are definitions.
 use Prim.Native.Nat.{ℕ}
+use mathlib.Core.Path.{_≡_}
 use Rattle.octets.specs.Octets.{Octets, decode}
 use Rattle.functions.specs.Challenge.{keysOf}
 use Rattle.functions.specs.Sets.{sets}
+use Rattle.aka.specs.Sequence.{FitsSqn}
 use Rattle.aka.specs.Usim as aka
 use Rattle.usim_record.specs.declared.Usim as declaredUsim
 use Rattle.usim_record.specs.declared.Answer as declaredAnswer
@@ -44,3 +46,7 @@ sqnDue aka.accepted usim rand autn = decode (aka.sqnIn (sets .under (usim .keys)
 sqnDue aka.macFailure usim rand autn = 0
 sqnDue aka.syncFailure usim rand autn = 0
 sqnDue (aka.refused number) usim rand autn = 0
+
+-- the SQN that a verdict gives is the one that is due, and it is a number of 48 bits
+abbrev pub SqnTold : Verdict → aka.Usim → (rand autn : Octets) → Type 0
+SqnTold verdict usim rand autn = (sqnGiven verdict ≡ sqnDue (verdictOf verdict) usim rand autn) × FitsSqn (sqnGiven verdict)

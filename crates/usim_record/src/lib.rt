@@ -1,4 +1,4 @@
-// The record of the USIM (document 01: card), and its answers that change nothing.
+// The record of the USIM (document 01: card), its places, and its answers that change nothing.
 use functions::Keys;
 ghost use mathlib.Core.Path.{_≡_};
 ghost use Rattle.functions.specs.Challenge.{keysOf};
@@ -7,10 +7,12 @@ ghost use Rattle.aka.specs.Usim.{newUsim, validUsim, unchanged as unchangedOf};
 ghost use Rattle.aka.specs.Sequence.{width};
 ghost use Rattle.usim_record.specs.Views.{usimOf, verdictOf, answerOf};
 
-// The thirty-two places of the card hold a SEQ for each index.
+pub mod places;
+
+// The places of the card hold a SEQ for each index.
 pub struct Usim {
     pub keys: Keys,
-    pub places: [u64; 32],
+    pub places: [u64; aka::PLACES],
 }
 
 // An acceptance has its SQN, a refusal its number.
@@ -25,10 +27,10 @@ pub enum Verdict {
 pub struct Answer {
     pub verdict: Verdict,
     pub usim: Usim,
-    pub res: [u8; 8],
-    pub ck: [u8; 16],
-    pub ik: [u8; 16],
-    pub auts: [u8; 14],
+    pub res: [u8; aka::RES_SIZE],
+    pub ck: [u8; aka::CK_SIZE],
+    pub ik: [u8; aka::IK_SIZE],
+    pub auts: [u8; aka::AUTS_SIZE],
 }
 
 // A new USIM: all places 0.
@@ -37,7 +39,7 @@ pub fn new(keys: Keys) -> Usim
 {
     Usim {
         keys,
-        places: [0; 32],
+        places: [0; aka::PLACES],
     }
 }
 
@@ -54,15 +56,15 @@ pub fn is_valid(usim: Usim) -> bool
 }
 
 // An answer that changes nothing and gives no keys.
-pub fn unchanged(verdict: Verdict, usim: Usim, auts: [u8; 14]) -> Answer
+pub fn unchanged(verdict: Verdict, usim: Usim, auts: [u8; aka::AUTS_SIZE]) -> Answer
     ensures { λ r. ⌜ (answerOf r ≡ unchangedOf (verdictOf verdict) (usimOf usim) auts) × (r .verdict ≡ verdict) ⌝ }
 {
     Answer {
         verdict,
         usim,
-        res: [0; 8],
-        ck: [0; 16],
-        ik: [0; 16],
+        res: [0; aka::RES_SIZE],
+        ck: [0; aka::CK_SIZE],
+        ik: [0; aka::IK_SIZE],
         auts,
     }
 }

@@ -13,4 +13,4 @@ returns c = listed-part (c .args .t1) 6 2 (omega (arith, c .good .0 .1 .0 .1))
 pub amf-in-spec : {M : Type 1} → statement M
 amf-in-spec = tie.close
     (tie.spec
-    (λ c. search needs) (λ c. search needs) returns)
+    (λ c. search needs) (λ c. search needs) (λ c. search needs) returns)

@@ -12,7 +12,7 @@ returns : tie.Need-returns
 unfolding readAuts
 returns c =
     let entry = c .before in
-    c .xor6 .ensures ∙ ap (λ (x : Octets). xor x (entry .args .ak)) (listed-part (entry .args .t1) 0 6 (omega (arith, entry .good .0 .1 .0 .1)))
+    c .xor6 .ensures ∙ ap (λ (x : Octets). xor x (entry .args .akstar)) (listed-part (entry .args .t1) 0 6 (omega (arith, entry .good .0 .1 .0 .1)))
 
 pub sqn-ms-in-spec : {M : Type 1} → statement M
 sqn-ms-in-spec =

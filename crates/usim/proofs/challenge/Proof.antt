@@ -2,8 +2,9 @@
 use mathlib.Core.Bool.{true, false}
 use mathlib.Core.Path.{_≡_, refl, sym, _∙_}
 use borrow.Author.Tests.{not-true, not-false, eq-eqb, ne-eqb}
+use Rattle.octets.specs.Octets.{Octets}
 use Rattle.functions.specs.Sets.{sets}
-use Rattle.aka.specs.Usim.{validUsim, sized}
+use Rattle.aka.specs.Usim.{Usim, refused, validUsim, sized, challenge as challengeOf}
 use Rattle.aka.proofs.Verdicts.{refused-1, refused-3, judged, true-sized}
 use Rattle.aka.specs.Sequence.{width}
 use Rattle.usim_record.specs.Views.{usimOf}
@@ -12,43 +13,67 @@ use borrow.Author.Needs.{needs}
 use Rattle.usim.proofs.challenge.Statement.{statement}
 use Rattle.usim.proofs.challenge.Tie as tie
 
-valid : (c : tie.Else1) → validUsim width sets (usimOf (c .before .before .before .before .args .usim)) ≡ true
+abbrev entry : tie.After-is-valid → tie.Start
+entry c = c .before .before .before
+
+-- the card, RAND and AUTN, once the record was tested
+module _ (tested : tie.After-is-valid) where
+  abbrev usim : Usim
+  usim = usimOf (entry tested .args .usim)
+
+  abbrev rand : Octets
+  rand = entry tested .args .rand .now
+
+  abbrev autn : Octets
+  autn = entry tested .args .autn .now
+
+valid : (c : tie.Else1) → validUsim width sets (usim (c .before)) ≡ true
 valid c = sym (c .before .is-valid .ensures) ∙ not-false _ (c .if1 .left)
 
 returns : tie.Need-returns
 returns c =
-    let at = c .before .before in
-    let args = at .before .before .before .args in
-    let bad : validUsim width sets (usimOf (args .usim)) ≡ false = sym (at .is-valid .ensures) ∙ not-true _ (c .before .if1 .taken) in
-    refusal _ (args .rand .now) (args .autn .now) _ 1 (refused-1 width sets _ _ _ bad) (c .unchanged .ensures)
+    let tested = c .before .before in
+    let bad : validUsim width sets (usim tested) ≡ false = sym (tested .is-valid .ensures) ∙ not-true _ (c .before .if1 .taken) in
+    refusal (usim tested) (rand tested) (autn tested) _ 1 (refused-1 width sets _ _ _ bad) (c .unchanged .ensures)
+
+-- refusal 3 of a valid record
+another-length : (c : tie.Else1) → sized (rand (c .before)) (autn (c .before)) ≡ false → challengeOf width sets (usim (c .before)) (rand (c .before)) (autn (c .before)) .verdict ≡ refused 3
+another-length c bad = refused-3 width sets (usim (c .before)) (rand (c .before)) (autn (c .before)) (valid c) bad
 
 returns-2 : tie.Need-returns-2
 unfolding sized
 returns-2 c =
-    let at = c .before .before in
-    let args = at .before .before .before .before .args in
-    let bad : sized (args .rand .now) (args .autn .now) ≡ false = rw (ne-eqb _ _ (c .before .if2 .taken)) refl in
-    refusal _ (args .rand .now) (args .autn .now) _ 3 (refused-3 width sets _ _ _ (valid at) bad) (c .unchanged2 .ensures)
+    let accepted = c .before .before in
+    let tested = accepted .before in
+    refusal (usim tested) (rand tested) (autn tested) _ 3
+    (another-length accepted (rw (ne-eqb _ _ (c .before .if2 .taken)) refl))
+    (c .unchanged2 .ensures)
 
 returns-3 : tie.Need-returns-3
 unfolding sized
 returns-3 c =
-    let at = c .before .before .before in
-    let args = at .before .before .before .before .args in
-    let bad : sized (args .rand .now) (args .autn .now) ≡ false = rw (eq-eqb _ _ (c .before .before .if2 .left), ne-eqb _ _ (c .before .if3 .taken)) refl in
-    refusal _ (args .rand .now) (args .autn .now) _ 3 (refused-3 width sets _ _ _ (valid at) bad) (c .unchanged3 .ensures)
+    let long = c .before .before in
+    let tested = long .before .before in
+    refusal (usim tested) (rand tested) (autn tested) _ 3
+    (another-length (long .before) (rw (eq-eqb _ _ (long .if2 .left), ne-eqb _ _ (c .before .if3 .taken)) refl))
+    (c .unchanged3 .ensures)
+
+-- from behind the two copies: no refusal applies
+abbrev unrefused : tie.After-sixteen2 → tie.Else3
+unrefused c = c .before .before
 
 authenticate-requires : tie.Need-authenticate-requires
-authenticate-requires c κs = valid (c .before .before .before .before)
+authenticate-requires c κs = valid (unrefused c .before .before)
 
 returns-4 : tie.Need-returns-4
 returns-4 c =
-    let lengths = c .before .before .before in
-    let at = lengths .before .before in
-    let args = at .before .before .before .before .args in
-    let good : sized (args .rand .now) (args .autn .now) ≡ true = true-sized _ _ (lengths .before .if2 .left) (lengths .if3 .left) in
-    answered _ (args .rand .now) (args .autn .now) _ _ (judged width sets _ _ _ (valid at) good)
-    (rw (c .before .before .sixteen .ensures, c .before .sixteen2 .ensures) at (c .authenticate .ensures))
+    let lent = c .before in
+    let long = unrefused lent in
+    let known = long .before .before in
+    let tested = known .before in
+    let good : sized (rand tested) (autn tested) ≡ true = true-sized _ _ (long .before .if2 .left) (long .if3 .left) in
+    answered (usim tested) (rand tested) (autn tested) _ _ (judged width sets _ _ _ (valid known) good)
+    (rw (lent .before .sixteen .ensures, lent .sixteen2 .ensures) at (c .authenticate .ensures))
 
 pub challenge-spec : {M : Type 1} → statement M
 challenge-spec =

@@ -1,39 +1,51 @@
 -- `judge_sqn` is the judgement once MAC is right. Assumes nothing.
-use mathlib.Core.Bool.{true, false}
+use mathlib.Core.Bool.{Bool, true, false, not, cond}
 use mathlib.Core.Path.{_≡_, refl, ap, _∙_}
-use native.Mathlib.Omega.{arith}
 use borrow.Author.Tests.{not-true, not-false}
+use Rattle.octets.specs.Octets.{Octets}
 use Rattle.functions.specs.Challenge.{keysOf}
 use Rattle.functions.specs.Sets.{sets}
 use Rattle.aka.specs.Usim.{accepted, syncFailure, unchanged, judgement, answerWith}
 use Rattle.aka.specs.Sequence.{width}
+use Rattle.usim_record.specs.declared.Verdict.the-variants.{Sync}
 use Rattle.usim_record.specs.Views.{usimOf}
+use Rattle.usim.specs.Judging.{MacVerified}
+use Rattle.usim.proofs.Answered.{unchanged-for}
 use borrow.Author.Needs.{needs}
 use Rattle.usim.proofs.judge_sqn.Statement.{statement}
 use Rattle.usim.proofs.judge_sqn.Tie as tie
 
+abbrev entry : tie.After-is-fresh → tie.Start
+entry c = c .before .before
+
+-- with a right MAC the test of freshness is the judgement
+module _ (tested : tie.After-is-fresh) (rand autn : Octets) where
+  abbrev start : tie.Start
+  start = entry tested
+
+  judged : MacVerified (keysOf (start .args .usim .keys)) rand autn (start .args .schedule .now) (start .args .c) (start .args .sqn) (start .args .res)
+      → (b : Bool) → tested .is-fresh .result ≡ b
+      → judgement width sets (usimOf (start .args .usim)) rand autn ≡ cond (not b) syncFailure accepted
+  unfolding judgement
+  judged v b e = rw (v .mac, ← v .sqn, ← tested .is-fresh .ensures, e) refl
+
 returns : tie.Need-returns
-unfolding judgement answerWith
-returns c = λ rand autn a.
-    let judged = c .before .before .before in
-    let usim = judged .before .before .args .usim in
-    let stale : judged .is-fresh .result ≡ false = not-true _ (c .before .before .if1 .taken) in
-    let sync : judgement width sets (usimOf usim) rand autn ≡ syncFailure = rw (a .mac, ← a .sqn, ← judged .is-fresh .ensures, stale) refl in
-    rw sync
-    (record {
-      answer = c .unchanged .ensures .0 ∙ ap (unchanged syncFailure (usimOf usim)) (c .before .auts .ensures (keysOf (usim .keys)) rand (a .started));
-      sqn = rw (c .unchanged .ensures .1);
-      fits = rw (c .unchanged .ensures .1) (omega arith);
-    })
+unfolding answerWith
+returns c = λ rand autn v.
+    let made = c .before in
+    let stale = made .before in
+    let tested = stale .before in
+    let usim = usimOf (entry tested .args .usim) in
+    rw (judged tested rand autn v false (not-true _ (stale .if1 .taken)))
+    (unchanged-for usim rand autn _ Sync _ refl refl refl (
+      c .unchanged .ensures .0 ∙ ap (unchanged syncFailure usim) (made .auts .ensures (usim .keys) rand (v .started)),
+      c .unchanged .ensures .1,
+    ))
 
 returns-2 : tie.Need-returns-2
-unfolding judgement
-returns-2 c = λ rand autn a.
-    let judged = c .before .before in
-    let usim = judged .before .before .args .usim in
-    let new : judged .is-fresh .result ≡ true = not-false _ (c .before .if1 .left) in
-    let yes : judgement width sets (usimOf usim) rand autn ≡ accepted = rw (a .mac, ← a .sqn, ← judged .is-fresh .ensures, new) refl in
-    rw yes (c .accept .ensures rand autn a)
+returns-2 c = λ rand autn v.
+    let new = c .before in
+    rw (judged (new .before) rand autn v true (not-false _ (new .if1 .left))) (c .accept .ensures rand autn v)
 
 pub judge-sqn-spec : {M : Type 1} → statement M
 judge-sqn-spec =

@@ -12,9 +12,11 @@ use Rattle.usim.proofs.mac_right.Tie as tie
 returns : tie.Need-returns
 unfolding readAutn macRight
 returns c = λ keys rand s e.
-    c .same .ensures
-    ∙ ap₂ equal (c .before .before .before .eight .ensures)
-    (c .before .f1 .ensures ∙ gives s .f1 _ _ ∙ ap₂ (λ (sqn amf : Octets). sets .under keys .f1 sqn rand amf) e (c .before .before .amf-in .ensures))
+    let made = c .before in
+    let read = made .before in
+    c .equal-without-early-end .ensures
+    ∙ ap₂ equal (read .before .eight .ensures)
+    (made .f1 .ensures keys rand s ∙ ap₂ (λ (sqn amf : Octets). sets .under keys .f1 sqn rand amf) e (read .amf-in .ensures))
 
 pub mac-right-spec : {M : Type 1} → statement M
 mac-right-spec =

@@ -1,0 +1,44 @@
+-- `auts` is AUTS of SQN_MS, which fits since the USIM is valid. Assumes nothing.
+use mathlib.Core.Path.{_≡_, ap, ap₂, _∙_}
+use Rattle.octets.specs.Octets.{Octets, xor, encode}
+use Rattle.functions.specs.Sets.{sets}
+use Rattle.aka.specs.Functions.{dummyAmf}
+use Rattle.aka.specs.Layout.{sqnSize, writeAuts}
+use Rattle.aka.specs.Sequence.{limit, width}
+use Rattle.aka.specs.Usim.{sqnMs, makeAuts}
+use Rattle.aka.proofs.Places.{within}
+use Rattle.aka.proofs.Verdicts.{valid-parts}
+use Rattle.usim_record.specs.Views.{usimOf}
+use Rattle.functions.proofs.Outputs.{gives}
+use borrow.Author.Needs.{needs}
+use Rattle.usim.proofs.auts.Statement.{statement}
+use Rattle.usim.proofs.auts.Tie as tie
+
+abbrev entry : tie.After-sqn-octets → tie.Start
+entry c = c .before .before .before
+
+sqn-ms-requires : tie.Need-sqn-ms-requires
+sqn-ms-requires c κs =
+    let start = c .before in
+    let usim = start .args .usim in
+    within (limit width) (usim .places) (valid-parts width sets (usimOf usim) (start .pre .1) .1)
+
+returns : tie.Need-returns
+unfolding makeAuts
+returns c = λ keys rand s.
+    let signed = c .before in
+    let concealed = signed .before in
+    let made = concealed .before in
+    let usim = usimOf (entry made .args .usim) in
+    let sqn : made .sqn-octets .result ≡ encode sqnSize (sqnMs width usim) =
+    made .sqn-octets .ensures ∙ ap (encode sqnSize) (made .before .sqn-ms .ensures) in
+    c .auts .ensures
+    ∙ ap₂ (λ (x y : Octets). writeAuts (record { concealed = x; mac = y }))
+    (ap₂ xor sqn (concealed .f5s .ensures keys rand s))
+    (signed .f1s .ensures keys rand s ∙ ap (λ (x : Octets). sets .under keys .f1* x rand dummyAmf) sqn)
+
+pub auts-spec : {M : Type 1} → statement M
+auts-spec =
+    tie.close
+    (tie.spec
+    sqn-ms-requires (λ c κs. search needs) (λ c κs. search needs) (λ c κs. search needs) (λ c κs. search needs) returns)
