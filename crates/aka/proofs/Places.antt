@@ -1,5 +1,5 @@
 -- Laws of the places of a USIM: the highest, the lowest index that holds it, one place replaced. Assumes nothing.
-use Prim.Native.Nat.{ℕ, zero, suc, _^_, _≤_, _<_}
+use Prim.Native.Nat.{ℕ, zero, suc, _-_, _^_, _≤_, _<_}
 use mathlib.Core.Bool.{Bool, true, false, _&&_, cond, and-eq-true-iff}
 use mathlib.Core.List.{List, [], _∷_}
 use mathlib.Core.Logic.{_↔_}
@@ -9,8 +9,10 @@ use native.Mathlib.Omega.{arith}
 use borrow.Author.Tests.{eqb-true, eqb-false, leb-true, leb-false, le-leb}
 use lib.Dec.{eqb, leb}
 use lib.ListN.{length, getD, set}
-use lib.Pow.{pow-pos}
-use Rattle.aka.specs.Sequence.{indices, limit, seqOf, indOf}
+use lib.Pow.{pow-pos, le-ones, lt-of-le-ones}
+use Rattle.octets.specs.Octets.{Below}
+use Rattle.octets.proofs.Ranges.{below-at}
+use Rattle.aka.specs.Sequence.{sqnBits, FitsSqn, indices, limit, seqOf, indOf}
 use Rattle.aka.specs.Usim.{Usim, highest, lowestIndex, seqMs, sqnMs, allWithin}
 use Rattle.aka.specs.UsimLaws.{LowestIndex}
 use Rattle.aka.proofs.Sequence.{seq-sqn, ind-sqn, sqn-seq-ind, sqn-lt}
@@ -90,9 +92,17 @@ unfolding allWithin
 within-iff most [] = (λ e i. omega arith, λ h. refl)
 within-iff most (p ∷ l) = (from (within-iff most l .0), λ h. rw (le-leb p most (h 0), within-iff most l .1 (λ i. h (suc i))))
   where
-    from : (allWithin most l ≡ true → (i : ℕ) → getD l i 0 ≤ most) → (leb p most && allWithin most l) ≡ true → (i : ℕ) → getD (p ∷ l) i 0 ≤ most
+    from : (allWithin most l ≡ true → (i : ℕ) → getD l i 0 ≤ most) → (leb p most && allWithin most l) ≡ true
+        → (i : ℕ) → getD (p ∷ l) i 0 ≤ most
     from ih e zero = leb-true p most (and-eq-true-iff (leb p most) (allWithin most l) .0 e .0)
     from ih e (suc i) = ih (and-eq-true-iff (leb p most) (allWithin most l) .0 e .1) i
+
+-- within the largest number of so many bits, each place is a digit of so many bits
+pub within-below : (bits : ℕ) (l : List ℕ) → (allWithin (2 ^ bits - 1) l ≡ true) ↔ Below (2 ^ bits) l
+within-below bits l = (
+  λ e i h. lt-of-le-ones bits (within-iff (2 ^ bits - 1) l .0 e i),
+  λ b. within-iff (2 ^ bits - 1) l .1 (λ i. le-ones bits (below-at (2 ^ bits) l i (pow-pos bits) b)),
+)
 
 pub within : (most : ℕ) (l : List ℕ) → allWithin most l ≡ true → highest l ≤ most
 within most l e = highest-le most l (within-iff most l .0 e)
@@ -120,7 +130,9 @@ sqn-ms w usim size =
     }
 
 -- it is a number of 48 bits where SEQ_MS is within the limit
-pub sqn-ms-fits : (w : ℕ) → w ≤ 48 → (usim : Usim) → length (usim .places) ≡ indices w → seqMs usim ≤ limit w → sqnMs w usim < 256 ^ 6
+pub sqn-ms-fits : (w : ℕ) → w ≤ sqnBits → (usim : Usim) → length (usim .places) ≡ indices w → seqMs usim ≤ limit w
+    → FitsSqn (sqnMs w usim)
 sqn-ms-fits w hw usim size h =
-    subst (λ (x : ℕ). x < 256 ^ 6) (sqn-seq-ind w (sqnMs w usim))
-    (sqn-lt w hw (seqOf w (sqnMs w usim)) (indOf w (sqnMs w usim)) (rw (sqn-ms w usim size .seq) h) (mod-lt (sqnMs w usim) (pow-pos w)))
+    let sqn = sqnMs w usim in
+    subst (λ (x : ℕ). FitsSqn x) (sqn-seq-ind w sqn)
+    (sqn-lt w hw (seqOf w sqn) (indOf w sqn) (rw (sqn-ms w usim size .seq) h) (mod-lt sqn (pow-pos w)))

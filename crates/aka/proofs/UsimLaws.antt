@@ -9,17 +9,19 @@ use borrow.Author.Tests.{le-leb}
 use lib.ListN.{length, getD, replicate, set, length-set}
 use lib.Seq.{getD-set-same, getD-set-other}
 use Rattle.octets.specs.Octets.{part, Octets, Below, zeros, decode}
+use Rattle.octets.proofs.Absurd.{zero-not-one}
 use Rattle.octets.proofs.Numbers.{number-lt}
-use Rattle.octets.proofs.Xor.{length-xor}
-use Rattle.aka.specs.Layout.{randSize, autnSize, autsSize, readAutn, writeAuts}
-use Rattle.aka.specs.Functions.{Keys, Functions, Family, Shaped, Lawful}
-use Rattle.aka.specs.Sequence.{indices, limit}
-use Rattle.aka.specs.Usim.{Usim, UsimAnswer, newUsim, highest, seqMs, sqnMs, Verdict, accepted, macFailure, syncFailure, refused, refusalOf, challenge, unchanged, verdictOn, judgement, answerWith, validUsim, allWithin, sized, sqnIn, seqIn, indIn, macRight, fresh, makeAuts}
-use Rattle.aka.specs.UsimLaws.{autsOf, Asked, Named, Fresh, OnePlace, UsimLaws, SameAnswer, UsimPromise}
 use Rattle.octets.proofs.Parts.{length-part}
 use Rattle.octets.proofs.Ranges.{below-part, below-xor}
-use Rattle.aka.proofs.Sequence.{seq-le}
-use Rattle.aka.proofs.Places.{within-iff, within-set, sqn-ms}
+use Rattle.octets.proofs.Xor.{length-xor}
+use Rattle.aka.specs.Layout.{randSize, autnSize, sqnSize, autsSize, readAutn, writeAuts}
+use Rattle.aka.specs.Functions.{Keys, Functions, Family, Shaped, Lawful}
+use Rattle.aka.specs.Sequence.{sqnBits, FitsSqn, indices, limit}
+use Rattle.aka.specs.Usim.{Usim, UsimAnswer, newUsim, highest, seqMs, sqnMs, challenge, unchanged, verdictOn, judgement, answerWith}
+use Rattle.aka.specs.Usim.{Verdict, accepted, macFailure, syncFailure, refused, refusalOf}
+use Rattle.aka.specs.Usim.{validUsim, allWithin, lengthsRight, sqnIn, seqIn, indIn, macRight, fresh, makeAuts}
+use Rattle.aka.specs.UsimLaws.{autsOf, LengthsNamed, Unrefused, Fresh, Acceptable, OnePlace, UsimLaws, SameAnswer, UsimPromise}
+use Rattle.aka.proofs.Places.{within-iff, sqn-ms}
 use Rattle.aka.proofs.Verdicts as known
 
 -- ---- one challenge
@@ -40,25 +42,29 @@ module _ (w : ℕ) (family : Family) (usim : Usim) (rand autn : Octets) where
   is : answer .verdict ≡ verdict
   is = known.verdict-is w family usim rand autn
 
-  lengths : Asked w family usim rand autn → sized rand autn ≡ true
-  lengths a = known.true-sized rand autn (a .named .rand-size) (a .named .autn-size)
+  lengths : Unrefused w family usim rand autn → lengthsRight rand autn ≡ true
+  lengths a = known.lengths-right rand autn (a .lengths .rand-size) (a .lengths .autn-size)
+
+  named : lengthsRight rand autn ≡ true → LengthsNamed w family usim rand autn
+  named e = let both = known.lengths-known rand autn e in record { rand-size = both .0; autn-size = both .1 }
 
   -- another length fails the test
-  not-sized : (Named w family usim rand autn → ⊥) → sized rand autn ≡ false
-  not-sized h = go (sized rand autn) refl
+  not-named : (LengthsNamed w family usim rand autn → ⊥) → lengthsRight rand autn ≡ false
+  not-named h = go (lengthsRight rand autn) refl
     where
-      go : (b : Bool) → sized rand autn ≡ b → b ≡ false
-      go true e = let both = known.sized-true rand autn e in absurd (h (record { rand-size = both .0; autn-size = both .1 }))
+      go : (b : Bool) → lengthsRight rand autn ≡ b → b ≡ false
+      go true e = absurd (h (named e))
       go false e = refl
 
   no-number : (mac new : Bool) (number : ℕ) → cond (not mac) macFailure (cond (not new) syncFailure accepted) ≡ refused number → ⊥
-  no-number true true number e = let z : _≡_ {A = ℕ} 0 1 = cc in omega arith
-  no-number true false number e = let z : _≡_ {A = ℕ} 0 1 = cc in omega arith
-  no-number false new number e = let z : _≡_ {A = ℕ} 0 1 = cc in omega arith
+  no-number true true number e = zero-not-one (cc)
+  no-number true false number e = zero-not-one (cc)
+  no-number false new number e = zero-not-one (cc)
 
-  answered : Asked w family usim rand autn → (number : ℕ) → answer .verdict ≡ refused number → ⊥
+  not-refused : Unrefused w family usim rand autn → (number : ℕ) → answer .verdict ≡ refused number → ⊥
   unfolding judgement
-  answered a number e = no-number (macRight F rand autn) test number (sym (known.judged w family usim rand autn (a .valid) (lengths a)) ∙ e)
+  not-refused a number e =
+      no-number (macRight F rand autn) test number (sym (known.judged w family usim rand autn (a .valid) (lengths a)) ∙ e)
 
   -- a verdict that is no refusal has the number 0
   none : (v : Verdict) → ((number : ℕ) → v ≡ refused number → ⊥) → refusalOf v ≡ 0
@@ -67,12 +73,24 @@ module _ (w : ℕ) (family : Family) (usim : Usim) (rand autn : Octets) where
   none syncFailure h = refl
   none (refused number) h = absurd (h number refl)
 
+  fresh-iff : (test ≡ true) ↔ Fresh w family usim rand autn
+  fresh-iff = known.fresh-iff (usim .places) (seqIn w F rand autn) (indIn w F rand autn)
+
   not-new : (Fresh w family usim rand autn → ⊥) → test ≡ false
   not-new h = go test refl
     where
       go : (b : Bool) → test ≡ b → b ≡ false
-      go true e = absurd (h (known.fresh-iff (usim .places) (seqIn w F rand autn) (indIn w F rand autn) .0 e))
+      go true e = absurd (h (fresh-iff .0 e))
       go false e = refl
+
+  fresh-accepted : Acceptable w family usim rand autn → answer .verdict ≡ accepted
+  fresh-accepted a =
+      known.mac-right w family usim rand autn (a .unrefused .valid) (lengths (a .unrefused)) (a .mac) ∙ rw (fresh-iff .1 (a .fresh))
+
+  accepted-fresh : answer .verdict ≡ accepted → Acceptable w family usim rand autn
+  accepted-fresh e =
+      let tests = known.accepted-tests w family usim rand autn e in
+      record { unrefused = record { valid = tests .0; lengths = named (tests .1) }; mac = tests .2; fresh = fresh-iff .0 (tests .3) }
 
   is-accepted : answer .verdict ≡ accepted → answer ≡ answerWith w family usim rand autn accepted
   is-accepted e = known.answer-of w family usim rand autn accepted e
@@ -91,7 +109,8 @@ module _ (w : ℕ) (family : Family) (usim : Usim) (rand autn : Octets) where
         others = λ j h. ap (λ (l : List ℕ). getD l j 0) places ∙ getD-set-other (usim .places) i j s 0 h;
       }
 
-  unchanged-with : (v : Verdict) → (v ≡ accepted → ⊥) → answerWith w family usim rand autn v ≡ unchanged v usim (answerWith w family usim rand autn v .auts)
+  unchanged-with : (v : Verdict) → (v ≡ accepted → ⊥)
+      → answerWith w family usim rand autn v ≡ unchanged v usim (answerWith w family usim rand autn v .auts)
   unfolding answerWith
   unchanged-with accepted h = absurd (h refl)
   unchanged-with macFailure h = refl
@@ -113,15 +132,16 @@ module _ (w : ℕ) (family : Family) (usim : Usim) (rand autn : Octets) where
   unfolding answerWith challenge
   laws = record {
     refusal1 = known.refused-1 w family usim rand autn;
-    refusal3 = λ valid bad. known.refused-3 w family usim rand autn valid (not-sized bad);
-    answered = answered;
+    refusal3 = λ valid bad. known.refused-3 w family usim rand autn valid (not-named bad);
+    not-refused = not-refused;
     number1 = λ bad. ap refusalOf (known.refused-1 w family usim rand autn bad);
-    number3 = λ valid bad. ap refusalOf (known.refused-3 w family usim rand autn valid (not-sized bad));
-    number0 = λ a. none (answer .verdict) (answered a);
+    number3 = λ valid bad. ap refusalOf (known.refused-3 w family usim rand autn valid (not-named bad));
+    number0 = λ a. none (answer .verdict) (not-refused a);
     mac-wrong = λ a wrong. known.mac-wrong w family usim rand autn (a .valid) (lengths a) wrong;
     not-fresh = λ a right h. known.mac-right w family usim rand autn (a .valid) (lengths a) right ∙ rw (not-new h);
     auts = auts-is;
-    fresh = λ a right h. known.mac-right w family usim rand autn (a .valid) (lengths a) right ∙ rw (known.fresh-iff (usim .places) (seqIn w F rand autn) (indIn w F rand autn) .1 h);
+    fresh-accepted = fresh-accepted;
+    accepted-fresh = accepted-fresh;
     stored = one-place;
     res = λ e. ap (λ (x : UsimAnswer). x .res) (is-accepted e);
     ck = λ e. ap (λ (x : UsimAnswer). x .ck) (is-accepted e);
@@ -132,24 +152,25 @@ module _ (w : ℕ) (family : Family) (usim : Usim) (rand autn : Octets) where
 
 -- ---- two USIMs
 
-module _ (w : ℕ) (family : Family) (usim usim′ : Usim) (rand autn : Octets) (v : validUsim w family usim ≡ true) (v′ : validUsim w family usim′ ≡ true)
+module _ (w : ℕ) (family : Family) (usim usim′ : Usim) (rand autn : Octets)
+    (v : validUsim w family usim ≡ true) (v′ : validUsim w family usim′ ≡ true)
     (same : usim .keys ≡ usim′ .keys) (wrong : macRight (family .under (usim .keys)) rand autn ≡ false) where
   -- the verdict does not look at the places
   blind : Bool → Verdict
-  blind lengths = cond (not lengths) (refused 3) macFailure
+  blind right = cond (not right) (refused 3) macFailure
 
-  verdict-blind : (u : Usim) → validUsim w family u ≡ true → macRight (family .under (u .keys)) rand autn ≡ false → challenge w family u rand autn .verdict ≡ blind (sized rand autn)
-  unfolding verdictOn judgement blind
-  verdict-blind u valid not-right = known.verdict-is w family u rand autn ∙ rw (valid, not-right)
+  module _ (u : Usim) (valid : validUsim w family u ≡ true) (not-right : macRight (family .under (u .keys)) rand autn ≡ false) where
+    verdict-blind : challenge w family u rand autn .verdict ≡ blind (lengthsRight rand autn)
+    unfolding verdictOn judgement blind
+    verdict-blind = known.verdict-is w family u rand autn ∙ rw (valid, not-right)
 
-  blind-auts : (u : Usim) (lengths : Bool) → answerWith w family u rand autn (blind lengths) ≡ unchanged (blind lengths) u (zeros autsSize)
-  unfolding answerWith blind
-  blind-auts u true = refl
-  blind-auts u false = refl
+    blind-auts : (right : Bool) → answerWith w family u rand autn (blind right) ≡ unchanged (blind right) u (zeros autsSize)
+    unfolding answerWith blind
+    blind-auts true = refl
+    blind-auts false = refl
 
-  answer-blind : (u : Usim) → validUsim w family u ≡ true → macRight (family .under (u .keys)) rand autn ≡ false
-      → challenge w family u rand autn ≡ unchanged (blind (sized rand autn)) u (zeros autsSize)
-  answer-blind u valid not-right = known.answer-of w family u rand autn _ (verdict-blind u valid not-right) ∙ blind-auts u (sized rand autn)
+    answer-blind : challenge w family u rand autn ≡ unchanged (blind (lengthsRight rand autn)) u (zeros autsSize)
+    answer-blind = known.answer-of w family u rand autn _ verdict-blind ∙ blind-auts (lengthsRight rand autn)
 
   alike : SameAnswer (challenge w family usim rand autn) (challenge w family usim′ rand autn)
   alike =
@@ -165,46 +186,37 @@ module _ (w : ℕ) (family : Family) (usim usim′ : Usim) (rand autn : Octets) 
 
 -- ---- the next record
 
-module _ (w : ℕ) (hw : w ≤ 48) (family : Family) (lawful : Lawful family) (usim : Usim) (rand autn : Octets) (shaped : Shaped (usim .keys))
-    (bk : Below 256 (usim .keys .k)) (bo : Below 256 (usim .keys .opc)) (br : Below 256 rand) (ba : Below 256 autn) (valid : validUsim w family usim ≡ true) where
-  abbrev next : UsimAnswer
-  next = challenge w family usim rand autn
-
+module _ (w : ℕ) (hw : w ≤ sqnBits) (family : Family) (lawful : Lawful family) (usim : Usim) (rand autn : Octets)
+    (shaped : Shaped (usim .keys)) (bk : Below 256 (usim .keys .k)) (bo : Below 256 (usim .keys .opc)) (br : Below 256 rand) (ba : Below 256 autn)
+    (valid : validUsim w family usim ≡ true) where
   abbrev G : Functions
   G = family .under (usim .keys)
 
-  parts : (family .known (usim .keys .set) ≡ true) × (allWithin (limit w) (usim .places) ≡ true)
-  parts = known.valid-parts w family usim valid
+  abbrev concealed : Octets
+  concealed = part 0 sqnSize autn
+
+  known-set : family .known (usim .keys .set) ≡ true
+  known-set = known.valid-parts w family usim valid .0
 
   -- SQN is a number of 48 bits
-  sqn-fits : length rand ≡ randSize → length autn ≡ autnSize → decode (sqnIn G rand autn) < 256 ^ 6
+  sqn-fits : length rand ≡ randSize → length autn ≡ autnSize → FitsSqn (decode (sqnIn G rand autn))
   unfolding readAutn
   sqn-fits hr ha =
-      let ak : length (G .f5 rand) ≡ 6 = lawful .lengths (usim .keys) (parts .0) shaped .f5 rand hr in
-      let six : length (sqnIn G rand autn) ≡ 6 = length-xor _ (G .f5 rand) (omega (arith, ak, length-part 0 6 autn (omega arith))) ∙ length-part 0 6 autn (omega arith) in
+      let ak : length (G .f5 rand) ≡ sqnSize = lawful .lengths (usim .keys) known-set shaped .f5 rand hr in
+      let front : length concealed ≡ sqnSize = length-part 0 sqnSize autn (omega arith) in
+      let six : length (sqnIn G rand autn) ≡ sqnSize = length-xor concealed (G .f5 rand) (omega arith) ∙ front in
       subst (λ (k : ℕ). decode (sqnIn G rand autn) < 256 ^ k) six
       (number-lt 256 (sqnIn G rand autn)
-      (below-xor 8 (part 0 6 autn) (G .f5 rand) (below-part 256 0 6 autn (omega arith) ba)
-      (lawful .octets (usim .keys) rand (parts .0) shaped hr bk bo br)))
+      (below-xor 8 concealed (G .f5 rand) (below-part 256 0 sqnSize autn (omega arith) ba)
+      (lawful .octets (usim .keys) rand known-set shaped hr bk bo br)))
 
-  accepted-valid : next .verdict ≡ accepted → validUsim w family (next .usim) ≡ true
-  unfolding answerWith validUsim
-  accepted-valid e =
-      let sizes = known.sized-true rand autn (known.verdict-sized w family usim rand autn accepted (λ number q. let z : _≡_ {A = ℕ} 0 1 = cc in omega arith) e) in
-      ap (λ (a : UsimAnswer). validUsim w family (a .usim)) (is-accepted w family usim rand autn e)
-      ∙ rw (parts .0) (within-set (limit w) (usim .places) (indIn w G rand autn) (seqIn w G rand autn) (seq-le w hw (decode (sqnIn G rand autn)) (sqn-fits (sizes .0) (sizes .1))) (parts .1))
-
-  other-valid : (next .verdict ≡ accepted → ⊥) → validUsim w family (next .usim) ≡ true
-  other-valid h = ap (validUsim w family) (known.not-accepted-unchanged w family usim rand autn h) ∙ valid
-
-  stays-valid : validUsim w family (next .usim) ≡ true
-  stays-valid = go (next .verdict) refl
+  stays-valid : validUsim w family (challenge w family usim rand autn .usim) ≡ true
+  stays-valid = known.next-valid w family usim rand autn hw valid accepted-fits
     where
-      go : (v : Verdict) → next .verdict ≡ v → validUsim w family (next .usim) ≡ true
-      go accepted e = accepted-valid e
-      go macFailure e = other-valid (λ q. let z : _≡_ {A = ℕ} 0 1 = cc in omega arith)
-      go syncFailure e = other-valid (λ q. let z : _≡_ {A = ℕ} 0 1 = cc in omega arith)
-      go (refused number) e = other-valid (λ q. let z : _≡_ {A = ℕ} 0 1 = cc in omega arith)
+      accepted-fits : challenge w family usim rand autn .verdict ≡ accepted → FitsSqn (decode (sqnIn G rand autn))
+      accepted-fits e =
+          let sizes = known.lengths-known rand autn (known.accepted-tests w family usim rand autn e .1) in
+          sqn-fits (sizes .0) (sizes .1)
 
 valid-iff : (w : ℕ) (family : Family) (usim : Usim)
     → (validUsim w family usim ≡ true) ↔ ((family .known (usim .keys .set) ≡ true) × ((i : ℕ) → getD (usim .places) i 0 ≤ limit w))

@@ -1,5 +1,6 @@
 -- The USIM (document 01: card): its record, and its whole answer to a challenge of any octets.
--- TS 33.102 §6.3.3 and Annex C; document 01, 'What the card does'. `w` is the width of the index in bits. Assumes nothing.
+-- TS 33.102 §6.3.3, in the order of its figure 9, and Annex C.2, where document 01 has a place for each index in place of a list; document
+-- 01, 'What the card does'. `w` is the width of the index IND in bits. Assumes nothing.
 use Prim.Native.Nat.{ℕ, suc, _-_, max}
 use mathlib.Core.Bool.{Bool, true, _&&_, _||_, not, cond}
 use mathlib.Core.List.{List, [], _∷_}
@@ -19,7 +20,7 @@ pub record Usim : Type 0 where
 abbrev pub newUsim : (w : ℕ) → Keys → Usim
 newUsim w keys = record { keys = keys; places = replicate (indices w) 0 }
 
--- ---- SEQ_MS and SQN_MS
+-- ---- SEQ_MS and SQN_MS (Annex C.2; the counter that AUTS tells)
 
 -- the highest place
 unfoldable pub highest : (places : List ℕ) → ℕ
@@ -50,12 +51,12 @@ unfoldable pub validUsim : (w : ℕ) → Family → Usim → Bool
 validUsim w family usim = family .known (usim .keys .set) && allWithin (limit w) (usim .places)
 
 -- RAND and AUTN have the lengths named: refusal 3 does not apply
-unfoldable pub sized : (rand autn : Octets) → Bool
-sized rand autn = eqb (length rand) randSize && eqb (length autn) autnSize
+unfoldable pub lengthsRight : (rand autn : Octets) → Bool
+lengthsRight rand autn = eqb (length rand) randSize && eqb (length autn) autnSize
 
--- ---- what AUTN says
+-- ---- what AUTN says (§6.3.3, figure 9)
 
--- SQN = (SQN xor AK) xor AK, in octets
+-- SQN = (SQN xor AK) xor AK, in octets; AK = f5 of RAND
 abbrev pub sqnIn : Functions → (rand autn : Octets) → Octets
 sqnIn F rand autn = xor (readAutn autn .concealed) (F .f5 rand)
 
@@ -65,11 +66,12 @@ seqIn w F rand autn = seqOf w (decode (sqnIn F rand autn))
 abbrev pub indIn : (w : ℕ) → Functions → (rand autn : Octets) → ℕ
 indIn w F rand autn = indOf w (decode (sqnIn F rand autn))
 
--- XMAC = f1 of SQN, RAND, AMF is AUTN's MAC
+-- 'Verify MAC = XMAC': XMAC = f1 of SQN, RAND, AMF
 unfoldable pub macRight : Functions → (rand autn : Octets) → Bool
 macRight F rand autn = equal (readAutn autn .mac) (F .f1 (sqnIn F rand autn) rand (readAutn autn .amf))
 
--- SEQ is above the place at IND, and SEQ minus SEQ_MS is at most D (a SEQ below SEQ_MS passes that half)
+-- 'Verify that SQN is in the correct range': SEQ is above the place at IND, and SEQ minus SEQ_MS is at most D (a SEQ below SEQ_MS passes
+-- that half). D is the annex's largest increase (C.2.1).
 unfoldable pub fresh : (places : List ℕ) (seq ind : ℕ) → Bool
 fresh places seq ind = ltb (getD places ind 0) seq && (ltb seq (highest places) || leb (seq - highest places) D)
 
@@ -94,7 +96,7 @@ pub record UsimAnswer : Type 0 where
   pub ik : Octets
   pub auts : Octets
 
--- AUTS: SQN_MS xor AK*, then MAC-S = f1* of SQN_MS, RAND, AMF
+-- AUTS: SQN_MS xor AK*, then MAC-S = f1* of SQN_MS, RAND, AMF; AK* = f5* of RAND
 unfoldable pub makeAuts : Functions → (sqn amf rand : Octets) → Octets
 makeAuts F sqn amf rand = writeAuts (record { concealed = xor sqn (F .f5* rand); mac = F .f1* sqn rand amf })
 
@@ -130,7 +132,7 @@ module _ (w : ℕ) (family : Family) (usim : Usim) (rand autn : Octets) where
   unfoldable pub verdictOn : Verdict
   verdictOn =
       cond (not (validUsim w family usim)) (refused 1)
-      (cond (not (sized rand autn)) (refused 3)
+      (cond (not (lengthsRight rand autn)) (refused 3)
       judgement)
 
   -- what goes with each verdict; octets not named for a case are zero

@@ -1,5 +1,5 @@
--- What the USIM's answer promises, sentence by sentence of document 01, 'What the card does'. These laws rule out its 'Slips that look right',
--- and the cards that it shuts out by name. Assumes nothing.
+-- What the USIM's answer promises, sentence by sentence of document 01, 'What the card does', beside TS 33.102 §6.3.3 and Annex C.2. These
+-- laws rule out its 'Slips that look right', and the cards that it shuts out by name. Assumes nothing.
 use Prim.Native.Nat.{ℕ, _+_, _≤_, _<_}
 use mathlib.Core.Bool.{true, false}
 use mathlib.Core.List.{[], _∷_, _++_}
@@ -7,14 +7,15 @@ use mathlib.Core.Logic.{_↔_}
 use mathlib.Core.Path.{_≡_}
 use lib.ListN.{length, getD}
 use Rattle.octets.specs.Octets.{Octets, Below, zeros, xor, encode}
-use Rattle.aka.specs.Layout.{randSize, autnSize, autsSize}
+use Rattle.aka.specs.Layout.{randSize, autnSize, sqnSize, autsSize}
 use Rattle.aka.specs.Functions.{Keys, Functions, Family, Shaped, Lawful}
-use Rattle.aka.specs.Sequence.{D, indices, limit, seqOf, indOf}
-use Rattle.aka.specs.Usim.{Usim, UsimAnswer, newUsim, accepted, macFailure, syncFailure, refused, refusalOf, challenge, unchanged, validUsim, seqIn, indIn, macRight, seqMs, sqnMs}
+use Rattle.aka.specs.Sequence.{D, sqnBits, indices, limit, seqOf, indOf}
+use Rattle.aka.specs.Usim.{Usim, UsimAnswer, newUsim, challenge, unchanged, validUsim, seqIn, indIn, macRight, seqMs, sqnMs}
+use Rattle.aka.specs.Usim.{accepted, macFailure, syncFailure, refused, refusalOf}
 
 -- 'AUTS is SQN_MS xor AK* (6), MAC-S (8)': AK* is f5* of RAND, and MAC-S is 'f1* of SQN_MS, RAND and an AMF of two zero bytes'
 abbrev pub autsOf : Functions → (sqn : ℕ) (rand : Octets) → Octets
-autsOf F sqn rand = xor (encode 6 sqn) (F .f5* rand) ++ F .f1* (encode 6 sqn) rand (0 ∷ 0 ∷ [])
+autsOf F sqn rand = xor (encode sqnSize sqn) (F .f5* rand) ++ F .f1* (encode sqnSize sqn) rand (0 ∷ 0 ∷ [])
 
 -- ---- one challenge, of any octets
 
@@ -31,19 +32,25 @@ module _ (w : ℕ) (family : Family) (usim : Usim) (rand autn : Octets) where
   abbrev ind : ℕ
   ind = indIn w F rand autn
 
-  -- RAND and AUTN have the lengths named
-  pub record Named : Type 0 where
+  -- RAND and AUTN have the lengths named: refusal 3 does not apply
+  pub record LengthsNamed : Type 0 where
     pub rand-size : length rand ≡ randSize
     pub autn-size : length autn ≡ autnSize
 
   -- no refusal applies
-  pub record Asked : Type 0 where
+  pub record Unrefused : Type 0 where
     pub valid : validUsim w family usim ≡ true
-    pub named : Named
+    pub lengths : LengthsNamed
 
   -- freshness in numbers: SEQ is above the place at IND, and at most SEQ_MS + D
   abbrev pub Fresh : Type 0
   Fresh = (getD (usim .places) ind 0 < seq) × (seq ≤ seqMs usim + D)
+
+  -- all that an acceptance asks
+  pub record Acceptable : Type 0 where
+    pub unrefused : Unrefused
+    pub mac : macRight F rand autn ≡ true
+    pub fresh : Fresh
 
   -- the next record has SEQ at that one place
   pub record OnePlace : Type 0 where
@@ -55,18 +62,20 @@ module _ (w : ℕ) (family : Family) (usim : Usim) (rand autn : Octets) where
   pub record UsimLaws : Type 0 where
     -- 'The lowest number that applies is given, and only when it applies.'
     pub refusal1 : validUsim w family usim ≡ false → answer .verdict ≡ refused 1
-    pub refusal3 : validUsim w family usim ≡ true → (Named → ⊥) → answer .verdict ≡ refused 3
-    pub answered : Asked → (number : ℕ) → answer .verdict ≡ refused number → ⊥
+    pub refusal3 : validUsim w family usim ≡ true → (LengthsNamed → ⊥) → answer .verdict ≡ refused 3
+    pub not-refused : Unrefused → (number : ℕ) → answer .verdict ≡ refused number → ⊥
     -- in document 01's numbers, 0 for none
     pub number1 : validUsim w family usim ≡ false → refusalOf (answer .verdict) ≡ 1
-    pub number3 : validUsim w family usim ≡ true → (Named → ⊥) → refusalOf (answer .verdict) ≡ 3
-    pub number0 : Asked → refusalOf (answer .verdict) ≡ 0
+    pub number3 : validUsim w family usim ≡ true → (LengthsNamed → ⊥) → refusalOf (answer .verdict) ≡ 3
+    pub number0 : Unrefused → refusalOf (answer .verdict) ≡ 0
     -- 'First MAC: if it differs, MAC failure.'
-    pub mac-wrong : Asked → macRight F rand autn ≡ false → answer .verdict ≡ macFailure
-    -- 'Then freshness. If not, synchronisation failure with AUTS. Otherwise accepted'
-    pub not-fresh : Asked → macRight F rand autn ≡ true → (Fresh → ⊥) → answer .verdict ≡ syncFailure
+    pub mac-wrong : Unrefused → macRight F rand autn ≡ false → answer .verdict ≡ macFailure
+    -- 'Then freshness. If not, synchronisation failure with AUTS.'
+    pub not-fresh : Unrefused → macRight F rand autn ≡ true → (Fresh → ⊥) → answer .verdict ≡ syncFailure
     pub auts : answer .verdict ≡ syncFailure → answer .auts ≡ autsOf F (sqnMs w usim) rand
-    pub fresh : Asked → macRight F rand autn ≡ true → Fresh → answer .verdict ≡ accepted
+    -- 'Otherwise accepted', in two halves: what is fresh is accepted, and what is accepted was fresh, its MAC right and nothing refused
+    pub fresh-accepted : Acceptable → answer .verdict ≡ accepted
+    pub accepted-fresh : answer .verdict ≡ accepted → Acceptable
     -- 'that one place becomes SEQ, and RES, CK, IK are given'
     pub stored : answer .verdict ≡ accepted → OnePlace
     pub res : answer .verdict ≡ accepted → answer .res ≡ F .f2 rand
@@ -108,6 +117,6 @@ pub record UsimPromise (w : ℕ) (family : Family) : Type 0 where
   -- a new record has SEQ_MS 0 and is valid, and a valid record is followed by a valid record
   pub new-seq : (keys : Keys) → seqMs (newUsim w keys) ≡ 0
   pub new-valid : (keys : Keys) → family .known (keys .set) ≡ true → validUsim w family (newUsim w keys) ≡ true
-  pub stays-valid : w ≤ 48 → Lawful family → (usim : Usim) (rand autn : Octets) → Shaped (usim .keys)
+  pub stays-valid : w ≤ sqnBits → Lawful family → (usim : Usim) (rand autn : Octets) → Shaped (usim .keys)
       → Below 256 (usim .keys .k) → Below 256 (usim .keys .opc) → Below 256 rand → Below 256 autn
       → validUsim w family usim ≡ true → validUsim w family (challenge w family usim rand autn .usim) ≡ true

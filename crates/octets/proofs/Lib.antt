@@ -8,3 +8,4 @@ pub mod Parts
 pub mod Walks
 pub mod Filling
 pub mod Copies
+pub mod Refusals

@@ -6,29 +6,34 @@ use native.Mathlib.Omega.{arith}
 use lib.Dec.{eqb}
 use lib.ListN.{drop, drop-of-length-le}
 use Rattle.octets.specs.Octets.{equal}
+use Rattle.aka.specs.Layout.{macSize}
 use Rattle.tokens.proofs.Comparing.{compare-next}
 use borrow.Author.Needs.{needs}
 use Rattle.tokens.proofs.equal_without_early_end.Statement.{statement}
 use Rattle.tokens.proofs.equal_without_early_end.Tie as tie
 
 abbrev Inv-loop : tie.InvT-loop
-Inv-loop x y differences₀ i₀ differences i = (i ≤ 8) × (equal x y ≡ (eqb differences 0 && equal (drop i x) (drop i y)))
+Inv-loop x y differences₀ i₀ differences i = (i ≤ macSize) × (equal x y ≡ (eqb differences 0 && equal (drop i x) (drop i y)))
 
 abbrev μ-loop : tie.MeasureT-loop
-μ-loop x y differences₀ i₀ differences i = 8 - i
+μ-loop x y differences₀ i₀ differences i = macSize - i
 
 loop-again : tie.Need-loop-again Inv-loop μ-loop
 loop-again c =
-    let l = c .before in
-    (omega arith, l .loop .inv .1 ∙ compare-next (l .before .args .t1) (l .before .args .t2) (l .loop .i) (l .loop .differences) (omega arith) (omega arith))
+    let head = c .before in
+    let args = head .before .args in (
+      omega arith,
+      head .loop .inv .1 ∙ compare-next (args .t1) (args .t2) (head .loop .i) (head .loop .differences) (omega arith) (omega arith),
+    )
 
 returns : tie.Need-returns Inv-loop μ-loop
 unfolding equal
 returns c =
-    let l = c .before in
-    let x = l .before .args .t1 in
-    let y = l .before .args .t2 in
-    sym (l .loop .inv .1 ∙ rw (drop-of-length-le x {i = l .loop .i} (omega arith), drop-of-length-le y {i = l .loop .i} (omega arith)) (and-true _))
+    let head = c .before in
+    let i = head .loop .i in
+    let x = head .before .args .t1 in
+    let y = head .before .args .t2 in
+    sym (head .loop .inv .1 ∙ rw (drop-of-length-le x {i = i} (omega arith), drop-of-length-le y {i = i} (omega arith)) (and-true _))
 
 pub equal-without-early-end-spec : {M : Type 1} → statement M
 equal-without-early-end-spec =

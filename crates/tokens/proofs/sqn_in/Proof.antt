@@ -8,7 +8,9 @@ use Rattle.tokens.proofs.sqn_in.Tie as tie
 
 returns : tie.Need-returns
 unfolding readAutn
-returns c = c .xor6 .ensures ∙ ap (λ (x : Octets). xor x (c .before .before .args .ak)) (c .before .six .ensures)
+returns c =
+    let read = c .before in
+    c .xor6 .ensures ∙ ap (λ (x : Octets). xor x (read .before .args .ak)) (read .six .ensures)
 
 pub sqn-in-spec : {M : Type 1} → statement M
 sqn-in-spec = tie.close

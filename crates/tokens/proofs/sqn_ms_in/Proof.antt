@@ -3,7 +3,7 @@ use mathlib.Core.Path.{ap, _∙_}
 use native.Mathlib.Omega.{arith}
 use Rattle.octets.specs.Octets.{Octets, xor}
 use Rattle.octets.proofs.Strings.{listed-part}
-use Rattle.aka.specs.Layout.{readAuts}
+use Rattle.aka.specs.Layout.{sqnSize, readAuts}
 use borrow.Author.Needs.{needs}
 use Rattle.tokens.proofs.sqn_ms_in.Statement.{statement}
 use Rattle.tokens.proofs.sqn_ms_in.Tie as tie
@@ -12,7 +12,8 @@ returns : tie.Need-returns
 unfolding readAuts
 returns c =
     let entry = c .before in
-    c .xor6 .ensures ∙ ap (λ (x : Octets). xor x (entry .args .akstar)) (listed-part (entry .args .t1) 0 6 (omega (arith, entry .good .0 .1 .0 .1)))
+    c .xor6 .ensures
+    ∙ ap (λ (x : Octets). xor x (entry .args .akstar)) (listed-part (entry .args .t1) 0 sqnSize (omega (arith, entry .good .0 .1 .0 .1)))
 
 pub sqn-ms-in-spec : {M : Type 1} → statement M
 sqn-ms-in-spec =

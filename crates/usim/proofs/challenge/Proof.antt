@@ -4,8 +4,8 @@ use mathlib.Core.Path.{_≡_, refl, sym, _∙_}
 use borrow.Author.Tests.{not-true, not-false, eq-eqb, ne-eqb}
 use Rattle.octets.specs.Octets.{Octets}
 use Rattle.functions.specs.Sets.{sets}
-use Rattle.aka.specs.Usim.{Usim, refused, validUsim, sized, challenge as challengeOf}
-use Rattle.aka.proofs.Verdicts.{refused-1, refused-3, judged, true-sized}
+use Rattle.aka.specs.Usim.{Usim, refused, validUsim, lengthsRight, challenge as challengeOf}
+use Rattle.aka.proofs.Verdicts.{refused-1, refused-3, judged, lengths-right}
 use Rattle.aka.specs.Sequence.{width}
 use Rattle.usim_record.specs.Views.{usimOf}
 use Rattle.usim.proofs.Answered.{answered, refusal}
@@ -37,11 +37,12 @@ returns c =
     refusal (usim tested) (rand tested) (autn tested) _ 1 (refused-1 width sets _ _ _ bad) (c .unchanged .ensures)
 
 -- refusal 3 of a valid record
-another-length : (c : tie.Else1) → sized (rand (c .before)) (autn (c .before)) ≡ false → challengeOf width sets (usim (c .before)) (rand (c .before)) (autn (c .before)) .verdict ≡ refused 3
+another-length : (c : tie.Else1) → lengthsRight (rand (c .before)) (autn (c .before)) ≡ false
+    → challengeOf width sets (usim (c .before)) (rand (c .before)) (autn (c .before)) .verdict ≡ refused 3
 another-length c bad = refused-3 width sets (usim (c .before)) (rand (c .before)) (autn (c .before)) (valid c) bad
 
 returns-2 : tie.Need-returns-2
-unfolding sized
+unfolding lengthsRight
 returns-2 c =
     let accepted = c .before .before in
     let tested = accepted .before in
@@ -50,7 +51,7 @@ returns-2 c =
     (c .unchanged2 .ensures)
 
 returns-3 : tie.Need-returns-3
-unfolding sized
+unfolding lengthsRight
 returns-3 c =
     let long = c .before .before in
     let tested = long .before .before in
@@ -71,7 +72,7 @@ returns-4 c =
     let long = unrefused lent in
     let known = long .before .before in
     let tested = known .before in
-    let good : sized (rand tested) (autn tested) ≡ true = true-sized _ _ (long .before .if2 .left) (long .if3 .left) in
+    let good : lengthsRight (rand tested) (autn tested) ≡ true = lengths-right _ _ (long .before .if2 .left) (long .if3 .left) in
     answered (usim tested) (rand tested) (autn tested) _ _ (judged width sets _ _ _ (valid known) good)
     (rw (lent .before .sixteen .ensures, lent .sixteen2 .ensures) at (c .authenticate .ensures))
 

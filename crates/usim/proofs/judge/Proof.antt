@@ -48,7 +48,8 @@ returns c = λ rand s.
     let wrong = c .before in
     let tested = wrong .before in
     let usim = usimOf (entry tested .args .usim) in
-    let mac : judgement width sets usim rand (autn tested rand) ≡ macFailure = rw (mac-is tested rand s (not-true _ (wrong .if1 .taken))) refl in
+    let different = mac-is tested rand s (not-true _ (wrong .if1 .taken)) in
+    let mac : judgement width sets usim rand (autn tested rand) ≡ macFailure = rw different refl in
     rw mac (unchanged-for usim rand (autn tested rand) _ Mac _ refl refl refl (c .unchanged .ensures))
 
 returns-2 : tie.Need-returns-2

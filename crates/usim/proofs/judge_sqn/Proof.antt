@@ -23,7 +23,12 @@ module _ (tested : tie.After-is-fresh) (rand autn : Octets) where
   abbrev start : tie.Start
   start = entry tested
 
-  judged : MacVerified (keysOf (start .args .usim .keys)) rand autn (start .args .schedule .now) (start .args .c) (start .args .sqn) (start .args .res)
+  abbrev Verified : Type 0
+  Verified =
+      MacVerified (keysOf (start .args .usim .keys)) rand autn (start .args .schedule .now) (start .args .c)
+      (start .args .sqn) (start .args .res)
+
+  judged : Verified
       → (b : Bool) → tested .is-fresh .result ≡ b
       → judgement width sets (usimOf (start .args .usim)) rand autn ≡ cond (not b) syncFailure accepted
   unfolding judgement
