@@ -187,8 +187,8 @@ module _ (w : ℕ) (family : Family) (usim usim′ : Usim) (rand autn : Octets)
 -- ---- the next record
 
 module _ (w : ℕ) (hw : w ≤ sqnBits) (family : Family) (lawful : Lawful family) (usim : Usim) (rand autn : Octets)
-    (shaped : Shaped (usim .keys)) (bk : Below 256 (usim .keys .k)) (bo : Below 256 (usim .keys .opc)) (br : Below 256 rand) (ba : Below 256 autn)
-    (valid : validUsim w family usim ≡ true) where
+    (shaped : Shaped (usim .keys)) (bk : Below 256 (usim .keys .k)) (bo : Below 256 (usim .keys .opc))
+    (br : Below 256 rand) (ba : Below 256 autn) (valid : validUsim w family usim ≡ true) where
   abbrev G : Functions
   G = family .under (usim .keys)
 

@@ -1,7 +1,8 @@
 -- The code's answer as the definitions have it. Assumes nothing: these are definitions.
+use Rattle.aka.specs.Auc.{Auc}
 use Rattle.auc_record.specs.Views.{aucOf}
-use Rattle.auc_image.specs.declared.Answer as declared
-use Rattle.auc_image.specs.Image.{Read}
+use Rattle.images.specs.Images as images
+use Rattle.auc_image.specs.declared.ReadAnswer as declared
 
-abbrev pub readOf : declared.Answer → Read
-readOf r = record { refusal = r .refusal; auc = aucOf (r .auc) }
+abbrev pub readOf : declared.ReadAnswer → images.Read Auc
+readOf r = record { refusal = r .refusal; contents = aucOf (r .auc) }

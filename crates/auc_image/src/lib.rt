@@ -1,28 +1,79 @@
-// The packed image of an AuC's record (document 01: centre), written and read. How it lies in octets: `auc_packing`.
-use auc_packing::COUNTERS;
-use auc_packing::fill;
-use auc_packing::unpack;
+// The packed image of an AuC's record (document 01: centre), most significant bit first: edition and set in 4 bits each, K, OPc, AMF,
+// SEQ_HE and the next index.
 use auc_record::Auc;
+ghost use mathlib.Core.Bool.{true};
+ghost use mathlib.Core.List.{_++_};
 ghost use mathlib.Core.Path.{_≡_};
+ghost use lib.ListN.{length, take, drop};
+ghost use Rattle.octets.specs.Octets.{decode, encode, number, part};
 ghost use Rattle.functions.specs.Sets.{sets};
-ghost use Rattle.auc_record.specs.Views.{aucOf};
-ghost use Rattle.image_parts.specs.Written.{writtenOf};
-ghost use Rattle.auc_image.specs.Image.{readAnswer, unread, writeAnswer};
-ghost use Rattle.auc_image.specs.Views.{readOf};
+ghost use Rattle.aka.specs.Layout.{amfSize, sqnSize};
+ghost use Rattle.aka.specs.Auc.{validAuc};
 ghost use Rattle.aka.specs.Sequence.{width};
+ghost use Rattle.auc_record.specs.Views.{aucOf};
+ghost use Rattle.images.specs.Images.{refusedRead, writtenOf, writeAnswer, readAnswer};
+ghost use Rattle.auc_image.specs.Image.{amfAt, bits, countersAt, format, image as imageOf, imageSize, readImage};
+ghost use Rattle.auc_image.specs.Views.{readOf};
+
+// Where AMF begins, and where the counters: SEQ_HE and the next index.
+const AMF_AT: usize = images::HEAD_SIZE;
+
+const COUNTERS_AT: usize = AMF_AT + aka::AMF_SIZE;
 
 // The octets of an image.
-pub const SIZE: usize = COUNTERS + 6;
+pub const SIZE: usize = COUNTERS_AT + aka::SQN_SIZE;
 
 // `refusal` is 0 where the record was read; otherwise the record is zero.
-pub struct Answer {
+pub struct ReadAnswer {
     pub refusal: u8,
     pub auc: Auc,
 }
 
+// SEQ_HE of a valid record above the next index, in six octets.
+fn counters_of(auc: Auc) -> [u8; aka::SQN_SIZE]
+    requires { ⌜ validAuc width sets (aucOf auc) ≡ true ⌝ }
+    ensures { λ r. ⌜ r ≡ encode sqnSize (number 2 (bits width (aucOf auc))) ⌝ }
+{
+    tokens::sqn_octets(aka::INDICES * auc.seqhe + auc.next as u64)
+}
+
+// Puts AMF into an image. What stands before and behind it stays.
+fn put_amf(image: &mut [u8], amf: [u8; aka::AMF_SIZE])
+    requires { ⌜ length (now image) ≡ imageSize ⌝ }
+    ensures { λ _. ⌜ now (image .exit) ≡ take amfAt (now (image .entry)) ++ amf ++ drop countersAt (now (image .entry)) ⌝ }
+{
+    bytes::copy(&amf, &mut image[AMF_AT..]);
+}
+
+// Puts the last six octets into an image. What stands before stays.
+fn put_counters(image: &mut [u8], counters: [u8; aka::SQN_SIZE])
+    requires { ⌜ length (now image) ≡ imageSize ⌝ }
+    ensures { λ _. ⌜
+        now (image .exit) ≡ take countersAt (now (image .entry)) ++ counters ++ drop imageSize (now (image .entry))
+        ⌝ }
+{
+    bytes::copy(&counters, &mut image[COUNTERS_AT..]);
+}
+
+// Fills an image with a valid record.
+fn fill(auc: Auc, image: &mut [u8])
+    requires valid { ⌜ validAuc width sets (aucOf auc) ≡ true ⌝ }
+    requires size { ⌜ length (now image) ≡ imageSize ⌝ }
+    ensures { λ _. ⌜ now (image .exit) ≡ imageOf width (aucOf auc) ⌝ }
+{
+    let keys = auc.keys;
+    let amf = auc.amf;
+    let counters = counters_of(auc);
+    images::put_head(image, keys);
+    put_amf(image, amf);
+    put_counters(image, counters);
+}
+
 // Writes the image of `auc`: 0, or the refusal's number, and then the buffer is as it was.
 pub fn write(auc: Auc, buffer: &mut [u8]) -> u8
-    ensures { λ r. ⌜ writtenOf r (now (buffer .exit)) ≡ writeAnswer width sets (aucOf auc) (now (buffer .entry)) ⌝ }
+    ensures { λ r. ⌜
+        writtenOf r (now (buffer .exit)) ≡ writeAnswer (format width sets) (aucOf auc) (now (buffer .entry))
+        ⌝ }
 {
     if !auc_record::is_valid(auc) {
         return 1;
@@ -34,27 +85,64 @@ pub fn write(auc: Auc, buffer: &mut [u8]) -> u8
     0
 }
 
-// The answer of a refused reading.
-fn refused(number: u8) -> Answer
-    ensures { λ r. ⌜ readOf r ≡ unread number ⌝ }
+// The AMF of an image.
+fn amf_in(image: &[u8]) -> [u8; aka::AMF_SIZE]
+    requires { ⌜ length (now image) ≡ imageSize ⌝ }
+    ensures { λ r. ⌜ r ≡ part amfAt amfSize (now (image .entry)) ⌝ }
 {
-    Answer {
-        refusal: number,
-        auc: auc_record::new(image_parts::no_keys(), [0; 2]),
+    [image[AMF_AT], image[AMF_AT + 1]]
+}
+
+// The number of an image's last six octets.
+fn counters_in(image: &[u8]) -> u64
+    requires { ⌜ length (now image) ≡ imageSize ⌝ }
+    ensures { λ r. ⌜ r ≡ decode (part countersAt sqnSize (now (image .entry))) ⌝ }
+{
+    tokens::sqn_number([
+        image[COUNTERS_AT],
+        image[COUNTERS_AT + 1],
+        image[COUNTERS_AT + 2],
+        image[COUNTERS_AT + 3],
+        image[COUNTERS_AT + 4],
+        image[COUNTERS_AT + 5],
+    ])
+}
+
+// The record of an image.
+fn unpack(image: &[u8]) -> Auc
+    requires { ⌜ length (now image) ≡ imageSize ⌝ }
+    ensures { λ r. ⌜ aucOf r ≡ readImage width (now (image .entry)) ⌝ }
+{
+    let counters = counters_in(image);
+    Auc {
+        keys: images::keys_in(image),
+        amf: amf_in(image),
+        seqhe: counters / aka::INDICES,
+        next: (counters % aka::INDICES) as u8,
     }
 }
 
-// Reads an image of any length and contents. A SEQ_HE of 43 bits and an index of 5 are never past their range.
-pub fn read(image: &[u8]) -> Answer
-    ensures { λ r. ⌜ readOf r ≡ readAnswer width sets (now (image .entry)) ⌝ }
+// The answer of a refused reading.
+fn refused_read(number: u8) -> ReadAnswer
+    ensures { λ r. ⌜ readOf r ≡ refusedRead (format width sets) number ⌝ }
+{
+    ReadAnswer {
+        refusal: number,
+        auc: auc_record::new(images::no_keys(), [0; aka::AMF_SIZE]),
+    }
+}
+
+// Reads an image of any length and contents.
+pub fn read(image: &[u8]) -> ReadAnswer
+    ensures { λ r. ⌜ readOf r ≡ readAnswer (format width sets) (now (image .entry)) ⌝ }
 {
     if image.len() != SIZE {
-        return refused(3);
+        return refused_read(3);
     }
-    if !image_parts::is_known(image) {
-        return refused(1);
+    if !images::known_head(image) {
+        return refused_read(1);
     }
-    Answer {
+    ReadAnswer {
         refusal: 0,
         auc: unpack(image),
     }

@@ -9,3 +9,4 @@ pub mod Walks
 pub mod Filling
 pub mod Copies
 pub mod Refusals
+pub mod PartByPart

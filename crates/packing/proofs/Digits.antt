@@ -117,7 +117,9 @@ module _ (a b : ℕ) (src dst : List ℕ) where
       none = p .rest ∙ ap (λ (k : ℕ). b * k) (sub-self (length dst)) ∙ mul-zero b
 
       last : r .at ≡ length src
-      last = ⊎-elim (λ e. omega (arith, p .reading .within)) (λ g. absurd (omega (arith, none, mul-pos some g))) (eq-zero-or-pos (length src - r .at))
+      last =
+          ⊎-elim (λ e. omega (arith, p .reading .within)) (λ g. absurd (omega (arith, none, mul-pos some g)))
+          (eq-zero-or-pos (length src - r .at))
 
       empty : r .held ≡ 0
       empty = omega (arith, none)

@@ -9,6 +9,9 @@ ghost use Rattle.octets.specs.Octets.{Below};
 ghost use Rattle.packing.specs.Packing.{Widths, repacked};
 ghost use Rattle.packing.specs.Reading.{Reading, Taken, left};
 
+// The bits of an octet.
+pub const OCTET_BITS: u64 = 8;
+
 // The first `at` digits are taken, and `bits` are the lowest `held` bits of their number.
 struct Reader {
     at: usize,

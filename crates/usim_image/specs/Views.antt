@@ -1,7 +1,8 @@
 -- The code's answer as the definitions have it. Assumes nothing: these are definitions.
+use Rattle.aka.specs.Usim.{Usim}
 use Rattle.usim_record.specs.Views.{usimOf}
-use Rattle.usim_image.specs.declared.Answer as declared
-use Rattle.usim_image.specs.Image.{Read}
+use Rattle.images.specs.Images as images
+use Rattle.usim_image.specs.declared.ReadAnswer as declared
 
-abbrev pub readOf : declared.Answer → Read
-readOf r = record { refusal = r .refusal; usim = usimOf (r .usim) }
+abbrev pub readOf : declared.ReadAnswer → images.Read Usim
+readOf r = record { refusal = r .refusal; contents = usimOf (r .usim) }

@@ -11,37 +11,37 @@ ghost use Rattle.functions.specs.Sets.{sets};
 ghost use Rattle.aka.specs.Sequence.{indices, width, seqBits};
 ghost use Rattle.aka.specs.Usim.{validUsim};
 ghost use Rattle.usim_record.specs.Views.{usimOf};
-ghost use Rattle.image_parts.specs.Written.{writtenOf};
-ghost use Rattle.usim_image.specs.Image.{image as imageOf, imageSize, placesAt, placesSize, readAnswer, readImage, unread, writeAnswer};
+ghost use Rattle.images.specs.Images.{refusedRead, writtenOf, writeAnswer, readAnswer};
+ghost use Rattle.usim_image.specs.Image.{format, image as imageOf, imageSize, placesAt, placesSize, readImage};
 ghost use Rattle.usim_image.specs.Views.{readOf};
 
 // Where the places begin.
-const PLACES: usize = 33;
+const PLACES_AT: usize = images::HEAD_SIZE;
 
 // The octets of the places.
-const PLACES_SIZE: usize = 172;
+const PLACES_SIZE: usize = (aka::SEQ_BITS * aka::INDICES / packing::OCTET_BITS) as usize;
 
 // The octets of an image.
-pub const SIZE: usize = PLACES + PLACES_SIZE;
-
-// The bits of a place: a SEQ.
-const SEQ_BITS: u64 = 43;
+pub const SIZE: usize = PLACES_AT + PLACES_SIZE;
 
 // `refusal` is 0 where the record was read; otherwise the record is zero.
-pub struct Answer {
+pub struct ReadAnswer {
     pub refusal: u8,
     pub usim: Usim,
 }
 
 // Puts the places into an image. What stands before stays.
-fn put_places(image: &mut [u8], places: [u64; 32])
+fn put_places(image: &mut [u8], places: [u64; aka::PLACES])
     requires size { ⌜ length (now image) ≡ imageSize width ⌝ }
     requires below { ⌜ Below (2 ^ seqBits width) places ⌝ }
-    ensures { λ _. ⌜ now (image .exit) ≡ take placesAt (now (image .entry)) ++ encode (placesSize width) (number (2 ^ seqBits width) places) ⌝ }
+    ensures { λ _. ⌜
+        now (image .exit)
+        ≡ take placesAt (now (image .entry)) ++ encode (placesSize width) (number (2 ^ seqBits width) places)
+        ⌝ }
 {
     let mut words = [0u64; PLACES_SIZE];
-    packing::repack(&places, SEQ_BITS, &mut words, 8);
-    packing::narrow(&words, &mut image[PLACES..]);
+    packing::repack(&places, aka::SEQ_BITS, &mut words, packing::OCTET_BITS);
+    packing::narrow(&words, &mut image[PLACES_AT..]);
 }
 
 // Fills an image with a valid record.
@@ -52,13 +52,15 @@ fn fill(usim: Usim, image: &mut [u8])
 {
     let keys = usim.keys;
     let places = usim.places;
-    image_parts::put_head(image, keys);
+    images::put_head(image, keys);
     put_places(image, places);
 }
 
 // Writes the image of `usim`: 0, or the refusal's number, and then the buffer is as it was.
 pub fn write(usim: Usim, buffer: &mut [u8]) -> u8
-    ensures { λ r. ⌜ writtenOf r (now (buffer .exit)) ≡ writeAnswer width sets (usimOf usim) (now (buffer .entry)) ⌝ }
+    ensures { λ r. ⌜
+        writtenOf r (now (buffer .exit)) ≡ writeAnswer (format width sets) (usimOf usim) (now (buffer .entry))
+        ⌝ }
 {
     if !usim_record::is_valid(usim) {
         return 1;
@@ -71,14 +73,14 @@ pub fn write(usim: Usim, buffer: &mut [u8]) -> u8
 }
 
 // The places of an image.
-fn unpack_places(octets: &[u8]) -> [u64; 32]
+fn unpack_places(octets: &[u8]) -> [u64; aka::PLACES]
     requires { ⌜ length (now octets) ≡ placesSize width ⌝ }
     ensures { λ r. ⌜ r ≡ digits (2 ^ seqBits width) (indices width) (decode (now (octets .entry))) ⌝ }
 {
     let mut words = [0u64; PLACES_SIZE];
     packing::widen(octets, &mut words);
-    let mut places = [0u64; 32];
-    packing::repack(&words, 8, &mut places, SEQ_BITS);
+    let mut places = [0u64; aka::PLACES];
+    packing::repack(&words, packing::OCTET_BITS, &mut places, aka::SEQ_BITS);
     places
 }
 
@@ -88,32 +90,32 @@ fn unpack(image: &[u8]) -> Usim
     ensures { λ r. ⌜ usimOf r ≡ readImage width (now (image .entry)) ⌝ }
 {
     Usim {
-        keys: image_parts::keys_in(image),
-        places: unpack_places(&image[PLACES..]),
+        keys: images::keys_in(image),
+        places: unpack_places(&image[PLACES_AT..]),
     }
 }
 
 // The answer of a refused reading.
-fn refused(number: u8) -> Answer
-    ensures { λ r. ⌜ readOf r ≡ unread width number ⌝ }
+fn refused_read(number: u8) -> ReadAnswer
+    ensures { λ r. ⌜ readOf r ≡ refusedRead (format width sets) number ⌝ }
 {
-    Answer {
+    ReadAnswer {
         refusal: number,
-        usim: usim_record::new(image_parts::no_keys()),
+        usim: usim_record::new(images::no_keys()),
     }
 }
 
-// Reads an image of any length and contents. A place of 43 bits is never past its range.
-pub fn read(image: &[u8]) -> Answer
-    ensures { λ r. ⌜ readOf r ≡ readAnswer width sets (now (image .entry)) ⌝ }
+// Reads an image of any length and contents.
+pub fn read(image: &[u8]) -> ReadAnswer
+    ensures { λ r. ⌜ readOf r ≡ readAnswer (format width sets) (now (image .entry)) ⌝ }
 {
     if image.len() != SIZE {
-        return refused(3);
+        return refused_read(3);
     }
-    if !image_parts::is_known(image) {
-        return refused(1);
+    if !images::known_head(image) {
+        return refused_read(1);
     }
-    Answer {
+    ReadAnswer {
         refusal: 0,
         usim: unpack(image),
     }

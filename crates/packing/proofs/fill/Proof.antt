@@ -21,35 +21,47 @@ abbrev μ-loop : tie.MeasureT-loop
 μ-loop src a b at₀ held₀ bits₀ at held bits = b - held
 
 loop-holds : tie.Need-loop-holds Inv-loop μ-loop
-loop-holds c = record { reading = record { within = search needs; few = search needs; bits = c .pre .1 .1 .0 .bits }; same = refl; kept = refl }
+loop-holds c = record {
+  reading = record { within = search needs; few = search needs; bits = c .pre .1 .1 .0 .bits };
+  same = refl;
+  kept = refl;
+}
+
+-- from inside the loop: its state, and the entry
+abbrev at : (c : tie.In-loop Inv-loop μ-loop) → tie.At-loop Inv-loop μ-loop
+at c = c .before
+
+abbrev entry : tie.In-loop Inv-loop μ-loop → tie.Start Inv-loop μ-loop
+entry c = at c .before
 
 -- a digit is left, since b bits are
-more : (c : tie.In-loop Inv-loop μ-loop) → c .before .loop .at < length (c .before .before .args .src .now)
+more : (c : tie.In-loop Inv-loop μ-loop) → at c .loop .at < length (entry c .args .src .now)
 more c =
-    let entry = c .before .before in
-    let rest = length (entry .args .src .now) - c .before .loop .at in
-    omega (arith, some-left (entry .args .a) rest (omega (arith, c .before .loop .inv .same, entry .pre .1 .1 .1)))
+    let rest = length (entry c .args .src .now) - at c .loop .at in
+    omega (arith, some-left (entry c .args .a) rest (omega (arith, at c .loop .inv .same, entry c .pre .1 .1 .1)))
 
 -- the state after this turn
-next : (c : tie.In-loop Inv-loop μ-loop) → let at = c .before .loop in let args = c .before .before .args in
+next : (c : tie.In-loop Inv-loop μ-loop) → let now = at c .loop in let args = entry c .args in
     Taken (args .a) (args .src .now) (args .b) (args .r)
-    (record { at = at .at + 1; held = at .held + args .a; bits = at .bits * 2 ^ args .a + getD (args .src .now) (at .at) 0 })
+    (record { at = now .at + 1; held = now .held + args .a; bits = now .bits * 2 ^ args .a + getD (args .src .now) (now .at) 0 })
 next c =
-    let entry = c .before .before in
-    taken-one (entry .args .a) (entry .args .src .now) (entry .pre .1 .0) (c .before .loop .at) (more c) (entry .args .b) (entry .args .r)
-    (c .before .loop .inv) (c .loop-test .taken)
+    let args = entry c .args in
+    taken-one (args .a) (args .src .now) (entry c .pre .1 .0) (at c .loop .at) (more c) (args .b) (args .r)
+    (at c .loop .inv) (c .loop-test .taken)
 
 -- no bit is shifted out
-shifted : (c : tie.In-loop Inv-loop μ-loop) → c .before .loop .bits * 2 ^ c .before .before .args .a % 2 ^ 64 ≡ c .before .loop .bits * 2 ^ c .before .before .args .a
+shifted : (c : tie.In-loop Inv-loop μ-loop) → let bits = at c .loop .bits in let a = entry c .args .a in
+    bits * 2 ^ a % 2 ^ 64 ≡ bits * 2 ^ a
 shifted c =
-    let at = c .before .loop in
-    let small : at .bits < 2 ^ at .held = rw (at .inv .reading .bits) (mod-lt _ (pow-pos (at .held))) in
-    shl-exact (at .held) (c .before .before .args .a) 64 small (omega arith)
+    let now = c .before .loop in
+    let small : now .bits < 2 ^ now .held = rw (now .inv .reading .bits) (mod-lt _ (pow-pos (now .held))) in
+    shl-exact (now .held) (entry c .args .a) 64 small (omega arith)
 
 -- what is held is within a word
 small : (a : ℕ) (src : List ℕ) (most : ℕ) (r : Reader) → Reading a src most r → most ≤ 64 → r .bits < 2 ^ 64
 small a src most r reading h =
-    rw (reading .bits) (lt-of-lt-of-le (mod-lt (numberOf a src (r .at)) (pow-pos (r .held))) (pow-mono {i = r .held} {j = 64} (omega arith)))
+    let below = mod-lt (numberOf a src (r .at)) (pow-pos (r .held)) in
+    rw (reading .bits) (lt-of-lt-of-le below (pow-mono {i = r .held} {j = 64} (omega arith)))
 
 mul-bits : tie.Need-mul-bits Inv-loop μ-loop
 mul-bits c = omega (arith, more c)

@@ -17,13 +17,19 @@ loop-holds : tie.Need-loop-holds Inv-loop μ-loop
 loop-holds c = copied-none _ _ (c .pre .0)
 
 cast-dst : tie.Need-cast-dst Inv-loop μ-loop
-cast-dst c = record { fits = c .before .before .before .pre .1 (c .before .before .loop .i) (omega arith) }
+cast-dst c =
+    let head = c .before .before in
+    record { fits = head .before .pre .1 (head .loop .i) (omega arith) }
 
 loop-again : tie.Need-loop-again Inv-loop μ-loop
-loop-again c = copied-next _ _ (c .before .before .before .pre .0) (c .before .before .loop .inv) (omega arith)
+loop-again c =
+    let head = c .before .before in
+    copied-next _ _ (head .before .pre .0) (head .loop .inv) (omega arith)
 
 returns : tie.Need-returns Inv-loop μ-loop
-returns c = copied-all _ _ (c .before .before .pre .0) (c .before .loop .inv) (c .loop-test .left)
+returns c =
+    let head = c .before in
+    copied-all _ _ (head .before .pre .0) (head .loop .inv) (c .loop-test .left)
 
 pub narrow-spec : {M : Type 1} → statement M
 narrow-spec =

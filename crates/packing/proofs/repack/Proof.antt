@@ -1,4 +1,5 @@
--- `packing::repack` meets its contract. The invariant: the first i digits are put, and the rest is held or still to be read. Assumes nothing.
+-- `packing::repack` meets its contract. The invariant: the first i digits are put, and the rest is held or still to be read. Assumes
+-- nothing.
 use Prim.Native.Nat.{ℕ, _-_, _*_, _%_, _^_, _<_}
 use mathlib.Core.Path.{_≡_, refl, _∙_}
 use native.Mathlib.Nat.{one-mul}
@@ -19,30 +20,38 @@ abbrev μ-loop : tie.MeasureT-loop
 loop-holds : tie.Need-loop-holds Inv-loop μ-loop
 loop-holds c = (refl, put-none _ _ _ _ (search needs) (c .before .before .pre .1 .1))
 
+-- from the loop's head to the entry, and from behind `fill` to the head
+abbrev entry : tie.At-loop Inv-loop μ-loop → tie.Start Inv-loop μ-loop
+entry head = head .before .before .before
+
+abbrev headOf : tie.After-fill Inv-loop μ-loop → tie.At-loop Inv-loop μ-loop
+headOf c = c .before .before
+
 fill-requires : tie.Need-fill-requires Inv-loop μ-loop
 fill-requires c κs =
-    let entry = c .before .before .before .before in
-    let at = c .before .loop in
-    let next = one-less (entry .args .b) (length (at .dst)) (at .i) (c .loop-test .taken) in
-    (entry .pre .0, (entry .pre .1 .0, (at .inv .1 .reading, omega (arith, at .inv .1 .rest, next))))
+    let head = c .before in
+    let start = entry head in
+    let next = one-less (start .args .b) (length (head .loop .dst)) (head .loop .i) (c .loop-test .taken) in
+    (start .pre .0, (start .pre .1 .0, (head .loop .inv .1 .reading, omega (arith, head .loop .inv .1 .rest, next))))
 
 -- a power of two below the width of a word
 unit : (k : ℕ) → k < 64 → 1 * 2 ^ k % 2 ^ 64 ≡ 2 ^ k
 unit k h = shl-exact 1 k 64 (omega arith) (omega arith) ∙ one-mul (2 ^ k)
 
-short : (c : tie.After-fill Inv-loop μ-loop) → c .fill .result .held - c .before .before .before .before .before .args .b < 64
-short c = omega (arith, c .fill .ensures .0 .reading .few, c .before .before .before .before .before .pre .0)
+short : (c : tie.After-fill Inv-loop μ-loop) → c .fill .result .held - entry (headOf c) .args .b < 64
+short c = omega (arith, c .fill .ensures .0 .reading .few, entry (headOf c) .pre .0)
 
 rem-t13 : tie.Need-rem-t13 Inv-loop μ-loop
 rem-t13 c = rw (unit _ (short (c .before .before .before))) (pow-pos _)
 
 loop-again : tie.Need-loop-again Inv-loop μ-loop
 loop-again c =
-    let at = c .before .before .before .before .before in
-    let fill = c .before .before .before .fill in (
-      simp length-set (at .loop .inv .0),
-      rw (unit _ (short (c .before .before .before)))
-          (put-one _ _ _ _ (at .loop .i) (at .loop .r) (fill .result) (at .loop .inv .1) (fill .ensures .0) (fill .ensures .1) (omega arith)),
+    let filled = c .before .before .before in
+    let head = headOf filled .loop in
+    let fill = filled .fill in (
+      simp length-set (head .inv .0),
+      rw (unit _ (short filled))
+          (put-one _ _ _ _ (head .i) (head .r) (fill .result) (head .inv .1) (fill .ensures .0) (fill .ensures .1) (omega arith)),
     )
 
 returns : tie.Need-returns Inv-loop μ-loop

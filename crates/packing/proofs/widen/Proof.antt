@@ -20,10 +20,14 @@ cast-dst : tie.Need-cast-dst Inv-loop μ-loop
 cast-dst c = omega (arith, c .shared-slice-known .given (c .before .before .loop .i))
 
 loop-again : tie.Need-loop-again Inv-loop μ-loop
-loop-again c = copied-next _ _ (c .before .before .before .pre) (c .before .before .loop .inv) (omega arith)
+loop-again c =
+    let head = c .before .before in
+    copied-next _ _ (head .before .pre) (head .loop .inv) (omega arith)
 
 returns : tie.Need-returns Inv-loop μ-loop
-returns c = copied-all _ _ (c .before .before .pre) (c .before .loop .inv) (c .loop-test .left)
+returns c =
+    let head = c .before in
+    copied-all _ _ (head .before .pre) (head .loop .inv) (c .loop-test .left)
 
 pub widen-spec : {M : Type 1} → statement M
 widen-spec =

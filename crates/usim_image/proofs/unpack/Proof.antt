@@ -3,7 +3,8 @@ use Prim.Native.Nat.{ℕ, _-_, _^_}
 use mathlib.Core.Path.{ap, _∙_}
 use lib.ListN.{drop, take}
 use Rattle.octets.specs.Octets.{decode, digits}
-use Rattle.usim_image.specs.Image.{readImage}
+use Rattle.aka.specs.Sequence.{indices, seqBits, width}
+use Rattle.usim_image.specs.Image.{placesAt, readImage}
 use borrow.Author.Needs.{needs}
 use Rattle.usim_image.proofs.unpack.Statement.{statement}
 use Rattle.usim_image.proofs.unpack.Tie as tie
@@ -16,7 +17,8 @@ returns c =
     let x = entry .args .image .now in
     λ i. record {
       keys = head .keys-in .ensures i;
-      places = (c .unpack-places .ensures ∙ ap (λ (n : ℕ). digits (2 ^ 43) 32 (decode (take (n - 33) (drop 33 x)))) (entry .pre)) i;
+      places = (c .unpack-places .ensures
+          ∙ ap (λ (n : ℕ). digits (2 ^ seqBits width) (indices width) (decode (take (n - placesAt) (drop placesAt x)))) (entry .pre)) i;
     }
 
 pub unpack-spec : {M : Type 1} → statement M

@@ -1,36 +1,35 @@
 -- `write` is `writeAnswer`: each way through it is one of its cases. Assumes nothing.
-use mathlib.Core.Bool.{true, false}
+use mathlib.Core.Bool.{true}
 use mathlib.Core.Path.{_≡_, sym, ap, _∙_}
-use borrow.Author.Tests.{eq-eqb, ne-eqb, not-true, not-false}
+use borrow.Author.Tests.{not-true, not-false}
 use Rattle.octets.specs.Octets.{Octets}
-use Rattle.usim_image.specs.Image.{writeAnswer}
+use Rattle.functions.specs.Sets.{sets}
+use Rattle.aka.specs.Sequence.{width}
+use Rattle.usim_record.specs.Views.{usimOf}
+use Rattle.images.proofs.Answers.{write-invalid, write-length, write-valid}
+use Rattle.usim_image.specs.Image.{format}
 use borrow.Author.Needs.{needs}
 use Rattle.usim_image.proofs.write.Statement.{statement}
 use Rattle.usim_image.proofs.write.Tie as tie
 
+valid : (c : tie.Else1) → format width sets .valid (usimOf (c .before .before .before .args .usim)) ≡ true
+valid c = sym (c .before .is-valid .ensures) ∙ not-false _ (c .if1 .left)
+
 returns : tie.Need-returns
-unfolding writeAnswer
-returns c =
-    let bad : c .before .is-valid .result ≡ false = not-true _ (c .if1 .taken) in
-    sym (rw (← c .before .is-valid .ensures, bad))
+returns c = sym (write-invalid (format width sets) _ _ (sym (c .before .is-valid .ensures) ∙ not-true _ (c .if1 .taken)))
 
 returns-2 : tie.Need-returns-2
-unfolding writeAnswer
-returns-2 c =
-    let valid : c .before .before .is-valid .result ≡ true = not-false _ (c .before .if1 .left) in
-    sym (rw (← c .before .before .is-valid .ensures, valid, ne-eqb _ 205 (c .if2 .taken)))
+returns-2 c = sym (write-length (format width sets) _ _ (valid (c .before)) (c .if2 .taken))
 
 fill-requires : tie.Need-fill-requires
-fill-requires c κs =
-    (sym (c .before .before .before .is-valid .ensures) ∙ not-false _ (c .before .before .if1 .left), c .before .if2 .left)
+fill-requires c κs = let tested = c .before in (valid (tested .before), tested .if2 .left)
 
 returns-3 : tie.Need-returns-3
-unfolding writeAnswer
 returns-3 c =
-    let test = c .before .before .before .before in
-    let valid : test .before .before .is-valid .result ≡ true = not-false _ (test .before .if1 .left) in
-    ap (λ (x : Octets). record { refusal = 0; image = x }) (c .before .before .fill .ensures)
-    ∙ sym (rw (← test .before .before .is-valid .ensures, valid, eq-eqb _ 205 (test .if2 .left)))
+    let done = c .before .before in
+    let tested = done .before .before in
+    ap (λ (x : Octets). record { refusal = 0; image = x }) (done .fill .ensures)
+    ∙ sym (write-valid (format width sets) _ _ (valid (tested .before)) (tested .if2 .left))
 
 pub write-spec : {M : Type 1} → statement M
 write-spec =
