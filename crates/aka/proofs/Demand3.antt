@@ -19,7 +19,7 @@ use Rattle.aka.specs.Demand3.{n, failure, renewal, answered, answersTo}
 use Rattle.aka.proofs.Places.{within}
 use Rattle.aka.proofs.Tokens.{sqnOctets}
 use Rattle.aka.proofs.Failures.{autsOf, auts-is-long, auts-is-right, auts-has}
-use Rattle.aka.proofs.Verdicts.{valid-parts, sized-true, verdict-sized, sync-answer}
+use Rattle.aka.proofs.Verdicts.{valid-parts, lengths-known, verdict-lengths, sync-answer}
 use Rattle.aka.proofs.Batches.{count-le, length-rand, batch-vector}
 use Rattle.aka.proofs.Outcomes.{start-bounds, valid-iff, resync-sent}
 use Rattle.aka.proofs.Rising.{Rising, Counted, all-calls}
@@ -54,8 +54,8 @@ module _ (w : ℕ) (hw : w ≤ 48) (family : Family) (lawful : Lawful family) (s
 
   rand-size : length (s .rand) ≡ randSize
   rand-size =
-      sized-true (s .rand) (s .autn)
-      (verdict-sized w family (s .usim) (s .rand) (s .autn) syncFailure (λ number e. let z : _≡_ {A = ℕ} 0 1 = cc in omega arith)
+      lengths-known (s .rand) (s .autn)
+      (verdict-lengths w family (s .usim) (s .rand) (s .autn) syncFailure (λ number e. let z : _≡_ {A = ℕ} 0 1 = cc in omega arith)
       (p .failed))
       .0
 

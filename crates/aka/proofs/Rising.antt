@@ -12,7 +12,7 @@ use Rattle.octets.proofs.Strings.{equal-true}
 use Rattle.aka.specs.Layout.{Vector, amfSize, randSize, vectorAt}
 use Rattle.aka.specs.Functions.{Functions, Family, Lengths}
 use Rattle.aka.specs.Sequence.{D, indices, limit}
-use Rattle.aka.specs.Usim.{Usim, UsimAnswer, challenge, fresh, sized, validUsim, allWithin, highest, seqMs}
+use Rattle.aka.specs.Usim.{Usim, UsimAnswer, challenge, fresh, lengthsRight, validUsim, allWithin, highest, seqMs}
 use Rattle.aka.specs.Auc.{makeVector}
 use Rattle.aka.specs.Demand3.{Call, AnsweredCall, Each, FromBatch, OtherNotAccepted, answerTo, answersTo}
 use Rattle.aka.specs.Demand3.{carries, placeFrom, placeOf, later, latest, vectorSeq}
@@ -65,7 +65,7 @@ carried : (batch : Octets) (call : Call) (k : ℕ) → carries batch call k ≡ 
     → (call .rand ≡ vectorAt batch k .rand) × (call .autn ≡ vectorAt batch k .autn)
 unfolding carries
 carried batch call k e =
-    let is-sized = sized (call .rand) (call .autn) in
+    let is-sized = lengthsRight (call .rand) (call .autn) in
     let same-rand = equal (call .rand) (vectorAt batch k .rand) in
     let same-autn = equal (call .autn) (vectorAt batch k .autn) in
     let outer = and-eq-true-iff (is-sized && same-rand) same-autn .0 e in

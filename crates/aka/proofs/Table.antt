@@ -22,7 +22,7 @@ use Rattle.octets.proofs.Parts.{unequal-false}
 use Rattle.aka.proofs.Layouts.{AutnSized, length-autn, read-autn}
 use Rattle.aka.proofs.Places.{place-le, within-iff}
 use Rattle.aka.proofs.Tokens.{length-sqn, autn-seq}
-use Rattle.aka.proofs.Verdicts.{true-sized, mac-wrong, made-verdict, made-accepted}
+use Rattle.aka.proofs.Verdicts.{lengths-right, mac-wrong, made-verdict, made-accepted}
 use Rattle.aka.proofs.Batches.{batch-vector, length-rand}
 use Rattle.aka.proofs.Outcomes.{order-given, order-past, resync-sent}
 use Rattle.aka.proofs.Failures.{auts-is-long, auts-is-right, auts-has}
@@ -85,7 +85,7 @@ module _ (family : Family) (lawful : Lawful family) (x : Sample) (p : Proper fam
     mac-row : askedWith family x mac used 10 3 .verdict ≡ macFailure
     mac-row =
         mac-wrong width family (usimWith family x used) (x .rand) (writeAutn fields) used-valid
-        (true-sized (x .rand) (writeAutn fields) (p .rand) (length-autn fields fields-sized)) wrong
+        (lengths-right (x .rand) (writeAutn fields) (p .rand) (length-autn fields fields-sized)) wrong
 
   -- ---- the AuC
 

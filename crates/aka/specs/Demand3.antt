@@ -11,7 +11,7 @@ use Rattle.octets.specs.Octets.{Octets, equal}
 use Rattle.aka.specs.Layout.{Vector, randSize, amfSize, vectorSize, mostVectors, vectorAt}
 use Rattle.aka.specs.Functions.{Functions, Family, Shaped, Lawful}
 use Rattle.aka.specs.Sequence.{sqnBits, indices, limit}
-use Rattle.aka.specs.Usim.{Usim, UsimAnswer, accepted, syncFailure, challenge, validUsim, sized, seqMs, seqIn}
+use Rattle.aka.specs.Usim.{Usim, UsimAnswer, accepted, syncFailure, challenge, validUsim, lengthsRight, seqMs, seqIn}
 use Rattle.aka.specs.Auc.{Auc, AucAnswer, unequal, kept, reset, validAuc, resync, countOf, equalPair}
 
 -- a USIM and a challenge to it; an AuC, and what is lent to its resynchronisation
@@ -47,7 +47,7 @@ Each P (x ∷ rest) = P x × Each P rest
 -- refusal 3 does not apply to the call, and its RAND and AUTN are those of the vector at place k
 unfoldable pub carries : (batch : Octets) → Call → (k : ℕ) → Bool
 carries batch call k =
-    sized (call .rand) (call .autn)
+    lengthsRight (call .rand) (call .autn)
     && equal (call .rand) (vectorAt batch k .rand)
     && equal (call .autn) (vectorAt batch k .autn)
 

@@ -48,7 +48,7 @@ pub fn mac_s_right(
 {
     let mac = tokens::mac_s_in(auts);
     let expected = functions::f1s(t, w, c, sqn, [0; 2]);
-    tokens::same(mac, expected)
+    tokens::equal_without_early_end(mac, expected)
 }
 
 // Whether RAND and AUTS have their lengths.

@@ -103,8 +103,8 @@ pub fn show(bench: Bench) -> Acted
     let auc = bench.auc;
     let usim = bench.usim;
     let places = usim.places;
-    let seqms = places::highest(places);
-    let index = places::lowest_index(places, seqms);
+    let seqms = usim_record::places::highest(places);
+    let index = usim_record::places::lowest_index(places, seqms);
     bench_state::stays(
         bench,
         Reply::Shown(auc.seqhe, auc.next as u64, seqms, index as u64),

@@ -13,7 +13,7 @@ use Rattle.aka.specs.Layout.{vectorAt, writeAutn, readAutn, writeAuts, readAuts
 use Rattle.aka.specs.Functions.{Keys, Shaped}
 use Rattle.aka.specs.Sequence.{sqnOf, width}
 use Rattle.aka.specs.Usim.{Usim, UsimAnswer, accepted, macFailure, syncFailure, refused, challenge, verdictOn, judgement, answerWith}
-use Rattle.aka.specs.Usim.{validUsim, sized, macRight, fresh, highest, lowestIndex, allWithin, makeAuts}
+use Rattle.aka.specs.Usim.{validUsim, lengthsRight, macRight, fresh, highest, lowestIndex, allWithin, makeAuts}
 use Rattle.aka.specs.Auc.{unequal, kept, reset, validAuc, makeAutn, makeVector, batchFrom, pairWith, pairFrom, equalPair, lentFor}
 use Rattle.aka.specs.Auc.{lentAll, unlessRefused, unlessPast, inRange, macSRight, resyncOutcome, resync}
 use Rattle.aka.specs.Auc as auc
@@ -115,7 +115,7 @@ not-refused : refused 3 ≡ accepted → ⊥
 not-refused e = zero-not-one (cc)
 
 pub computed : Computed
-unfolding sets testOutputs baseOf outputs outputsOf challenge verdictOn judgement answerWith validUsim sized macRight fresh highest
+unfolding sets testOutputs baseOf outputs outputsOf challenge verdictOn judgement answerWith validUsim lengthsRight macRight fresh highest
     lowestIndex allWithin makeAuts makeAutn writeAutn readAutn writeAuts readAuts xor equal digits spelt pairFrom pairWith validAuc
     auc.answerWith lentFor lentAll unlessRefused unlessPast inRange macSRight resyncOutcome resync batchFrom makeVector writeVector
     readVector joined turnLeft answersTo placeFrom carries

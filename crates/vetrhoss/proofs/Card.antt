@@ -14,7 +14,7 @@ use Rattle.aka.proofs.Places.{within-set}
 use Rattle.aka.proofs.Sequence.{seq-le}
 use Rattle.aka.proofs.Verdicts.{valid-parts, answer-of, not-accepted-unchanged}
 use Rattle.usim_record.specs.Views.{sqnDue}
-use Rattle.usim_image.specs.Image.{Read, imageSize, readAnswer}
+use Rattle.usim_image.specs.Image.{Read, imageSize, readAnswer, format}
 use Rattle.usim_image.proofs.RoundTrips.{round-trips}
 use Rattle.card_answers.specs.Answers.{Lent, isLent, answered}
 
@@ -52,10 +52,10 @@ module _ (card : Usim) (rand autn : Octets) where
         ∙ stays-valid (a .verdict) (sym (ap (λ (b : UsimAnswer). b .verdict) e)) (rw s at fits)
 
 -- an image that was read has its length and a valid record
-pub held : (x : Octets) (r : Read) → r ≡ readAnswer width sets x → r .refusal ≡ 0 → (length x ≡ imageSize width) × (validUsim width sets (r .usim) ≡ true)
+pub held : (x : Octets) (r : Read Usim) → r ≡ readAnswer (format width sets) x → r .refusal ≡ 0 → (length x ≡ imageSize width) × (validUsim width sets (r .contents) ≡ true)
 held x r e none =
-    let sound = round-trips .sound x (sym (ap (λ (y : Read). y .refusal) e) ∙ none) in
-    (sound .0, ap (λ (y : Read). validUsim width sets (y .usim)) e ∙ sound .1)
+    let sound = round-trips .sound x (sym (ap (λ (y : Read Usim). y .refusal) e) ∙ none) in
+    (sound .0, ap (λ (y : Read Usim). validUsim width sets (y .contents)) e ∙ sound .1)
 
 -- buffers that pass the test have their lengths
 pub lengths : (res ck ik auts : Octets) → isLent res ck ik auts ≡ true → Lent res ck ik auts

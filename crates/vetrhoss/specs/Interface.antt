@@ -56,8 +56,8 @@ newAucCall set k opc amf buffer =
 -- a challenge, with the buffers lent for RES, CK, IK and AUTS
 unfoldable pub challengeCall : (image rand autn res ck ik auts : Octets) → Challenged
 challengeCall image rand autn res ck ik auts =
-    let held = usim.readAnswer width sets image in
-    let card = held .usim in
+    let held = usim.readAnswer (usim.format width sets) image in
+    let card = held .contents in
     let answer = challenge width sets card rand autn in
     cond (not (eqb (held .refusal) 0)) (untouched (held .refusal) image res ck ik auts)
     (cond (not (isLent res ck ik auts)) (untouched 3 image res ck ik auts)
@@ -68,9 +68,9 @@ challengeCall image rand autn res ck ik auts =
 -- the record in an image is asked
 unfoldable pub onImage : (image : Octets) (count : ℕ) (batch : Octets) → (Auc → AucAnswer) → Batched
 onImage image count batch ask =
-    let held = auc.readAnswer width sets image in
+    let held = auc.readAnswer (auc.format width sets) image in
     cond (not (eqb (held .refusal) 0)) (record { result = unreadResult (held .refusal) count; image = image; batch = batch })
-    (settled image (ask (held .auc)))
+    (settled image (ask (held .contents)))
 
 abbrev pub orderCall : (image : Octets) (count : ℕ) (rands batch : Octets) → Batched
 orderCall image count rands batch = onImage image count batch (λ held. order width sets held count rands batch)

@@ -114,7 +114,7 @@ pub fn res_right(vlr: Vlr, res: &[u8]) -> bool
     ensures { λ r. ⌜ r ≡ spec.resRight (vlrOf vlr) (now (res .entry)) ⌝ }
 {
     let out = vlr.out;
-    tokens::same(vector::res(res), vector::xres(out))
+    tokens::equal_without_early_end(vector::res(res), vector::xres(out))
 }
 
 // CK and IK are given where RES is right.

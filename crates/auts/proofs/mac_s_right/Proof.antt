@@ -12,7 +12,7 @@ use Rattle.auts.proofs.mac_s_right.Tie as tie
 returns : tie.Need-returns
 unfolding macSRight
 returns c = λ keys rand s e.
-    c .same .ensures
+    c .equal-without-early-end .ensures
     ∙ ap₂ equal (c .before .before .mac-s-in .ensures)
     (c .before .f1s .ensures ∙ gives s .f1* _ _ ∙ ap (λ (sqn : Octets). sets .under keys .f1* sqn rand dummyAmf) e)
 

@@ -7,7 +7,7 @@ use Rattle.functions.specs.Sets.{sets}
 use Rattle.functions.proofs.Protocol.{auc-holds}
 use Rattle.aka.specs.Auc.{Auc, newAuc}
 use Rattle.aka.specs.Sequence.{width}
-use Rattle.auc_image.specs.Image.{writeAnswer}
+use Rattle.auc_image.specs.Image.{writeAnswer, format}
 use Rattle.vetrhoss.specs.Interface.{newAucCall}
 use Rattle.vetrhoss.proofs.Filling.{toFilled, auc-written}
 use borrow.Author.Needs.{needs}
@@ -50,7 +50,7 @@ returns-5 c =
     rw (named, eq-eqb _ 16 (sized .before .before .if2 .left), eq-eqb _ 16 (sized .before .if3 .left), eq-eqb _ 2 two)
     (ap toFilled
     (written .write .ensures
-    ∙ ap (λ (a : Auc). writeAnswer width sets a (args .image .now)) (made .new .ensures ∙ ap₂ newAuc (held .keys-from .ensures) (listed-all (args .amf .now) 2 two)))
+    ∙ ap (λ (a : Auc). writeAnswer (format width sets) a (args .image .now)) (made .new .ensures ∙ ap₂ newAuc (held .keys-from .ensures) (listed-all (args .amf .now) 2 two)))
     ∙ auc-written centre (args .image .now) (auc-holds .new-valid _ _ named))
 
 pub vetrhoss-new-auc-spec : {M : Type 1} → statement M

@@ -7,7 +7,7 @@ use Rattle.functions.proofs.Protocol.{usim-holds}
 use Rattle.aka.specs.Functions.{Keys}
 use Rattle.aka.specs.Usim.{Usim, newUsim}
 use Rattle.aka.specs.Sequence.{width}
-use Rattle.usim_image.specs.Image.{writeAnswer}
+use Rattle.usim_image.specs.Image.{writeAnswer, format}
 use Rattle.vetrhoss.specs.Interface.{newUsimCall}
 use Rattle.vetrhoss.proofs.Filling.{toFilled, usim-written}
 use borrow.Author.Needs.{needs}
@@ -43,7 +43,7 @@ returns-4 c =
     rw (named, eq-eqb _ 16 (sized .before .if2 .left), eq-eqb _ 16 (sized .if3 .left))
     (ap toFilled
     (written .write .ensures
-    ∙ ap (λ (u : Usim). writeAnswer width sets u (args .image .now))
+    ∙ ap (λ (u : Usim). writeAnswer (format width sets) u (args .image .now))
     (made .new .ensures ∙ ap (newUsim width) (made .before .keys-from .ensures)))
     ∙ usim-written card (args .image .now) (usim-holds .new-valid _ named))
 

@@ -8,7 +8,7 @@ use Rattle.vlr_steps.proofs.res_right.Tie as tie
 
 returns : tie.Need-returns
 unfolding resRight
-returns c = c .same .ensures ∙ ap₂ equal (c .before .before .res .ensures) (c .before .xres .ensures)
+returns c = c .equal-without-early-end .ensures ∙ ap₂ equal (c .before .before .res .ensures) (c .before .xres .ensures)
 
 pub res-right-spec : {M : Type 1} → statement M
 res-right-spec = tie.close (tie.spec (λ c κs. search needs) (λ c κs. search needs) (λ c κs. search needs) returns)
