@@ -14,32 +14,32 @@ use Rattle.octets.proofs.Parts.{length-part}
 use Rattle.aka.proofs.Layouts.{VectorSized, length-vector, read-vector, length-joined, part-joined}
 use Rattle.aka.proofs.Tokens.{sqnOctets, length-sqn, vector-sized}
 
-pub count-le : (count : ℕ) → count ≤ mostVectors → countOf count ≤ mostVectors
-count-le count h = go (eqb count 0)
+pub count-le : (default count : ℕ) → default ≤ mostVectors → count ≤ mostVectors → countOf default count ≤ mostVectors
+count-le default count d h = go (eqb count 0)
   where
-    go : (b : Bool) → cond b (countOf 0) count ≤ mostVectors
-    go true = omega arith
+    go : (b : Bool) → cond b default count ≤ mostVectors
+    go true = d
     go false = h
 
 pub length-rand : (rands : Octets) (n : ℕ) → length rands ≡ randSize * n → (k : ℕ) → k < n → length (randAt rands k) ≡ randSize
-length-rand rands n h k l = length-part (16 * k) 16 rands (omega arith)
+length-rand rands n h k l = length-part (randSize * k) randSize rands (omega arith)
 
 module _ (w : ℕ) (family : Family) (auc : Auc) (L : Lengths (family .under (auc .keys))) (ha : length (auc .amf) ≡ amfSize)
-    (start : ℕ) (rands : Octets) (n : ℕ) (hr : length rands ≡ randSize * n) where
+    (from : ℕ) (rands : Octets) (n : ℕ) (hr : length rands ≡ randSize * n) where
   abbrev vec : ℕ → Vector
-  vec k = vectorFrom w family auc start rands k
+  vec k = vectorFrom w family auc from rands k
 
   sizes : (k : ℕ) → k < n → VectorSized (vec k)
-  sizes k h = vector-sized (family .under (auc .keys)) L (sqnOctets w (seqAt start k) (indAt auc k)) (auc .amf) (randAt rands k)
-      (length-sqn (sqnOf w (seqAt start k) (indAt auc k))) ha (length-rand rands n hr k h)
+  sizes k h = vector-sized (family .under (auc .keys)) L (sqnOctets w (seqAt from k) (indAt auc k)) (auc .amf) (randAt rands k)
+      (length-sqn (sqnOf w (seqAt from k) (indAt auc k))) ha (length-rand rands n hr k h)
 
-  pub length-batch : length (batchFrom w family auc start rands n) ≡ vectorSize * n
+  pub length-batch : length (batchFrom w family auc from rands n) ≡ vectorSize * n
   unfolding batchFrom
-  length-batch = length-joined (λ k. writeVector (vec k)) 72 n (λ k h. length-vector (vec k) (sizes k h))
+  length-batch = length-joined (λ k. writeVector (vec k)) vectorSize n (λ k h. length-vector (vec k) (sizes k h))
 
-  pub batch-octets : (k : ℕ) → k < n → octetsAt (batchFrom w family auc start rands n) k ≡ writeVector (vec k)
+  pub batch-octets : (k : ℕ) → k < n → octetsAt (batchFrom w family auc from rands n) k ≡ writeVector (vec k)
   unfolding batchFrom
-  batch-octets k h = part-joined (λ j. writeVector (vec j)) 72 n (λ j l. length-vector (vec j) (sizes j l)) k h
+  batch-octets k h = part-joined (λ j. writeVector (vec j)) vectorSize n (λ j l. length-vector (vec j) (sizes j l)) k h
 
-  pub batch-vector : (k : ℕ) → k < n → vectorAt (batchFrom w family auc start rands n) k ≡ vec k
+  pub batch-vector : (k : ℕ) → k < n → vectorAt (batchFrom w family auc from rands n) k ≡ vec k
   batch-vector k h = ap readVector (batch-octets k h) ∙ read-vector (vec k) (sizes k h)

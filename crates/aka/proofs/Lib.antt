@@ -12,6 +12,10 @@ pub mod Steps
 pub mod Batches
 pub mod Outcomes
 pub mod UsimLaws
+pub mod Offsets
+pub mod AucAnswers
+pub mod OrderLaws
+pub mod ResyncLaws
 pub mod AucLaws
 pub mod VlrLaws
 pub mod OrderOfUse

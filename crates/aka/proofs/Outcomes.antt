@@ -4,7 +4,7 @@ use mathlib.Core.Bool.{Bool, true, false, _&&_, _||_, not, cond, and-eq-true-iff
 use mathlib.Core.Logic.{_↔_}
 use mathlib.Core.Path.{_≡_, refl, sym, _∙_}
 use native.Mathlib.Omega.{arith}
-use borrow.Author.Tests.{eqb-true, eq-eqb, leb-true, le-leb, le-ltb, lt-ltb, ltb-true}
+use borrow.Author.Tests.{eqb-true, eq-eqb, leb-true, le-leb, le-ltb, lt-ltb, ltb-true, ltb-false}
 use lib.Dec.{eqb, ltb, leb}
 use lib.ListN.{length}
 use Rattle.octets.specs.Octets.{Octets}
@@ -12,56 +12,77 @@ use Rattle.aka.specs.Layout.{randSize, autsSize, vectorSize, mostVectors
 use Rattle.aka.specs.Functions.{Functions, Family}
 use Rattle.aka.specs.Sequence.{D, indices, limit}
 use Rattle.aka.specs.AucLaws.{Range}
-use Rattle.aka.specs.Auc.{Auc, AucAnswer, unequal, Outcome, given, kept, reset, refused, validAuc, countOf, equalPair, lentFor, lentAll, inRange, startOf, macSRight, seqMsIn, unlessRefused, unlessPast, answerWith, after, batchFrom, orderOutcome, order, resyncOutcome, resync}
+use Rattle.aka.specs.Auc.{Auc, AucAnswer, Pair, unequal, equalAt, Outcome, given, kept, reset, refused, repeated, refusalOf}
+use Rattle.aka.specs.Auc.{validAuc, orderCount, resyncCount, equalPair, lentFor, lentAuts, inRange, keptOrReset, macSRight, seqMsIn}
+use Rattle.aka.specs.Auc.{unlessRepeated, unlessRefused, unlessPast, givenWith, refusedWith, answerWith, orderOutcome, order}
+use Rattle.aka.specs.Auc.{resyncFrom, autsOutcome, resyncOutcome, resync}
 
--- ---- the start of a batch
+-- ---- the SEQ that a batch follows
 
 pub in-range-iff : (he ms n : ℕ) → (inRange he ms n ≡ true) ↔ Range he ms n
 unfolding inRange
 in-range-iff he ms n = (
-  λ e. let both = and-eq-true-iff (leb ms he) (leb (he + n) (ms + D)) .0 e in (leb-true ms he (both .0), leb-true (he + n) (ms + D) (both .1)),
+  λ e.
+      let both = and-eq-true-iff (leb ms he) (leb (he + n) (ms + D)) .0 e in
+      (leb-true ms he (both .0), leb-true (he + n) (ms + D) (both .1)),
   λ h. rw (le-leb ms he (h .0), le-leb (he + n) (ms + D) (h .1)),
 )
 
--- kept or reset, its numbers begin above SEQ_MS and end within D and the limit
-pub start-bounds : (he ms n most : ℕ) → n ≤ D → ms + n ≤ most → he + n ≤ most
-    → (ms ≤ startOf he ms n) × (startOf he ms n + n ≤ ms + D) × (startOf he ms n + n ≤ most)
-start-bounds he ms n most hn hm hh = go (inRange he ms n) refl
+-- kept or reset, the batch's numbers begin above SEQ_MS and end within D and the limit
+pub from-bounds : (he ms n most : ℕ) → n ≤ D → ms + n ≤ most → he + n ≤ most
+    → (ms ≤ keptOrReset he ms n) × (keptOrReset he ms n + n ≤ ms + D) × (keptOrReset he ms n + n ≤ most)
+from-bounds he ms n most hn hm hh = go (inRange he ms n) refl
   where
     go : (b : Bool) → inRange he ms n ≡ b → (ms ≤ cond b he ms) × (cond b he ms + n ≤ ms + D) × (cond b he ms + n ≤ most)
     go true e = let both = in-range-iff he ms n .0 e in (both .0, both .1, hh)
     go false e = (omega arith, omega arith, hm)
 
--- ---- when no refusal applies
+-- ---- the lengths of lent parts
 
-pub lent-iff : (n : ℕ) (rands buffer : Octets) → (lentFor n rands buffer ≡ true) ↔ ((length rands ≡ randSize * n) × (length buffer ≡ vectorSize * n))
+both-iff : (a b c d : ℕ) → ((eqb a b && eqb c d) ≡ true) ↔ ((a ≡ b) × (c ≡ d))
+both-iff a b c d = (
+  λ e. let both = and-eq-true-iff (eqb a b) (eqb c d) .0 e in (eqb-true a b (both .0), eqb-true c d (both .1)),
+  λ h. rw (eq-eqb a b (h .0), eq-eqb c d (h .1)),
+)
+
+pub lent-iff : (n rands buffer : ℕ) → (lentFor n rands buffer ≡ true) ↔ ((rands ≡ randSize * n) × (buffer ≡ vectorSize * n))
 unfolding lentFor
-lent-iff n rands buffer = (
-  λ e.
-      let both = and-eq-true-iff (eqb (length rands) (16 * n)) (eqb (length buffer) (72 * n)) .0 e in
-      (eqb-true (length rands) (16 * n) (both .0), eqb-true (length buffer) (72 * n) (both .1)),
-  λ h. rw (eq-eqb (length rands) (16 * n) (h .0), eq-eqb (length buffer) (72 * n) (h .1)),
-)
+lent-iff n rands buffer = both-iff rands (randSize * n) buffer (vectorSize * n)
 
-pub lent-all-iff : (n : ℕ) (rands buffer rand auts : Octets)
-    → (lentAll n rands buffer rand auts ≡ true) ↔ ((lentFor n rands buffer ≡ true) × (length rand ≡ randSize) × (length auts ≡ autsSize))
-unfolding lentAll
-lent-all-iff n rands buffer rand auts = (
-  λ e.
-      let all = and-eq-true-iff (lentFor n rands buffer && eqb (length rand) 16) (eqb (length auts) 14) .0 e in
-      let two = and-eq-true-iff (lentFor n rands buffer) (eqb (length rand) 16) .0 (all .0) in
-      (two .0, eqb-true (length rand) 16 (two .1), eqb-true (length auts) 14 (all .1)),
-  λ h. rw (h .0, h .1, h .2),
-)
+pub lent-auts-iff : (rand auts : ℕ) → (lentAuts rand auts ≡ true) ↔ ((rand ≡ randSize) × (auts ≡ autsSize))
+unfolding lentAuts
+lent-auts-iff rand auts = both-iff rand randSize auts autsSize
+
+-- ---- the answer that goes with an outcome
+
+module _ (w : ℕ) (family : Family) (auc : Auc) (from : ℕ) (rands : Octets) (n : ℕ) (buffer : Octets) where
+  abbrev answered : Outcome → AucAnswer
+  answered o = answerWith w family auc from rands n buffer o
+
+  pub answer-given : (o : Outcome) → refusalOf o ≡ 0 → answered o ≡ givenWith w family auc from rands n o
+  unfolding answerWith
+  answer-given o e = rw e
+
+  pub answer-refused : (o : Outcome) → eqb (refusalOf o) 0 ≡ false → answered o ≡ refusedWith w family auc buffer o
+  unfolding answerWith
+  answer-refused o e = rw e
+
+-- ---- refusals
 
 -- in range, or MAC-S right: refusal 5 does not apply
-not-five : (range right : Bool) → (range || right) ≡ true → (not range && not right) ≡ false
+pub not-five : (range right : Bool) → (range || right) ≡ true → (not range && not right) ≡ false
 not-five true right e = refl
 not-five false true e = refl
 not-five false false e = sym e
 
+-- a resynchronisation that is not refused has a batch
+pub told-batch : (b : Bool) → refusalOf (cond b kept reset) ≡ 0
+told-batch true = refl
+told-batch false = refl
+
 module _ (w : ℕ) (family : Family) (auc : Auc) where
-  pub valid-iff : (validAuc w family auc ≡ true) ↔ ((family .known (auc .keys .set) ≡ true) × (auc .seqhe ≤ limit w) × (auc .next < indices w))
+  pub valid-iff : (validAuc w family auc ≡ true)
+      ↔ ((family .known (auc .keys .set) ≡ true) × (auc .seqhe ≤ limit w) × (auc .next < indices w))
   unfolding validAuc
   valid-iff = (
     λ e.
@@ -71,72 +92,130 @@ module _ (w : ℕ) (family : Family) (auc : Auc) where
     λ h. rw (h .0, le-leb (auc .seqhe) (limit w) (h .1), lt-ltb (auc .next) (indices w) (h .2)),
   )
 
-  pub not-refused : (count n : ℕ) (lent : Bool) (rands : Octets) (rest : Outcome) → validAuc w family auc ≡ true → count ≤ mostVectors → lent ≡ true
-      → equalPair rands n ≡ unequal → unlessRefused w family auc count n lent rands rest ≡ rest
-  unfolding unlessRefused
-  not-refused count n lent rands rest valid small right pair = rw (valid, le-ltb mostVectors count small, right, pair)
+  -- refusals 1 to 4, the lowest that applies
+  module _ (count n : ℕ) (lent : Bool) (rands : Octets) where
+    abbrev chain : Outcome → Outcome
+    chain rest = unlessRefused w family auc count n lent rands rest
 
-  pub is-past : (start n : ℕ) (rest : Outcome) → limit w < start + n → unlessPast w family auc start n rest ≡ refused 6
+    pub refusal-1 : (rest : Outcome) → validAuc w family auc ≡ false → chain rest ≡ refused 1
+    unfolding unlessRefused
+    refusal-1 rest bad = rw bad
+
+    pub refusal-2 : (rest : Outcome) → validAuc w family auc ≡ true → mostVectors < count → chain rest ≡ refused 2
+    unfolding unlessRefused
+    refusal-2 rest valid many = rw (valid, lt-ltb mostVectors count many)
+
+    module _ (rest : Outcome) (valid : validAuc w family auc ≡ true) (small : count ≤ mostVectors) where
+      pub refusal-3 : lent ≡ false → chain rest ≡ refused 3
+      unfolding unlessRefused
+      refusal-3 other = rw (valid, le-ltb mostVectors count small, other)
+
+      pub refusal-4 : (i j : ℕ) → lent ≡ true → equalPair rands n ≡ equalAt i j → chain rest ≡ repeated i j
+      unfolding unlessRefused
+      refusal-4 i j named pair = rw (valid, le-ltb mostVectors count small, named, pair)
+
+      pub not-refused : lent ≡ true → equalPair rands n ≡ unequal → chain rest ≡ rest
+      unfolding unlessRefused
+      not-refused named pair = rw (valid, le-ltb mostVectors count small, named, pair)
+
+    -- none of them applies
+    pub record Passes : Type 0 where
+      pub valid : validAuc w family auc ≡ true
+      pub small : count ≤ mostVectors
+      pub named : lent ≡ true
+      pub unequal-rands : equalPair rands n ≡ unequal
+
+    pub passes : (rest : Outcome) → refusalOf (chain rest) ≡ 0 → Passes
+    unfolding unlessRefused
+    passes rest e = go (validAuc w family auc) (ltb mostVectors count) lent (equalPair rands n) refl refl refl refl e
+      where
+        go : (v many named : Bool) (pair : Pair)
+            → validAuc w family auc ≡ v → ltb mostVectors count ≡ many → lent ≡ named → equalPair rands n ≡ pair
+            → refusalOf (cond (not v) (refused 1) (cond many (refused 2) (cond (not named) (refused 3) (unlessRepeated pair rest)))) ≡ 0
+            → Passes
+        go false many named pair a b c d z = absurd (omega arith)
+        go true true named pair a b c d z = absurd (omega arith)
+        go true false false pair a b c d z = absurd (omega arith)
+        go true false true (equalAt i j) a b c d z = absurd (omega arith)
+        go true false true unequal a b c d z = record { valid = a; small = ltb-false mostVectors count b; named = c; unequal-rands = d }
+
+    pub passes-on : Passes → (rest : Outcome) → chain rest ≡ rest
+    passes-on p rest = not-refused rest (p .valid) (p .small) (p .named) (p .unequal-rands)
+
+  pub is-past : (from n : ℕ) (rest : Outcome) → limit w < from + n → unlessPast w family auc from n rest ≡ refused 6
   unfolding unlessPast
-  is-past start n rest h = rw (lt-ltb (limit w) (start + n) h)
+  is-past from n rest h = rw (lt-ltb (limit w) (from + n) h)
 
-  pub not-past : (start n : ℕ) (rest : Outcome) → start + n ≤ limit w → unlessPast w family auc start n rest ≡ rest
+  pub not-past : (from n : ℕ) (rest : Outcome) → from + n ≤ limit w → unlessPast w family auc from n rest ≡ rest
   unfolding unlessPast
-  not-past start n rest h = rw (le-ltb (limit w) (start + n) h)
+  not-past from n rest h = rw (le-ltb (limit w) (from + n) h)
 
-  module _ (count : ℕ) (rands buffer : Octets) (valid : validAuc w family auc ≡ true) (small : count ≤ mostVectors)
-      (hr : length rands ≡ randSize * countOf count) (hb : length buffer ≡ vectorSize * countOf count) (pair : equalPair rands (countOf count) ≡ unequal) where
-    passes : (rest : Outcome) → unlessRefused w family auc count (countOf count) (lentFor (countOf count) rands buffer) rands rest ≡ rest
-    passes rest = not-refused count (countOf count) (lentFor (countOf count) rands buffer) rands rest valid small (lent-iff (countOf count) rands buffer .1 (hr, hb)) pair
+  -- ---- what AUTS leads to, behind refusals 1 to 4
 
-    -- a batch is given
-    pub order-given : auc .seqhe + countOf count ≤ limit w → order w family auc count rands buffer ≡ record {
-      outcome = given;
-      n = countOf count;
-      auc = after w auc (auc .seqhe) (countOf count);
-      batch = batchFrom w family auc (auc .seqhe) rands (countOf count);
-    }
-    unfolding order answerWith orderOutcome
-    order-given room = rw (passes (unlessPast w family auc (auc .seqhe) (countOf count) given), not-past (auc .seqhe) (countOf count) given room)
+  module _ (rand auts : Octets) (n : ℕ) where
+    abbrev F : Functions
+    F = family .under (auc .keys)
 
-    -- the last SEQ would pass the limit
-    pub order-past : limit w < auc .seqhe + countOf count → order w family auc count rands buffer .outcome ≡ refused 6
-    unfolding order answerWith orderOutcome
-    order-past past = rw (passes (unlessPast w family auc (auc .seqhe) (countOf count) given), is-past (auc .seqhe) (countOf count) given past)
+    abbrev range : Bool
+    range = inRange (auc .seqhe) (seqMsIn w F rand auts) n
 
-    -- a batch is sent, kept or reset
-    module _ (rand auts : Octets) (hrand : length rand ≡ randSize) (hauts : length auts ≡ autsSize) where
-      abbrev F : Functions
-      F = family .under (auc .keys)
+    abbrev from : ℕ
+    from = resyncFrom w family auc rand auts n
 
-      abbrev ms : ℕ
-      ms = seqMsIn w F rand auts
+    pub auts-five : (not range && not (macSRight F rand auts)) ≡ true → autsOutcome w family auc rand auts n ≡ refused 5
+    unfolding autsOutcome
+    auts-five wrong = rw wrong
 
+    pub auts-on : (not range && not (macSRight F rand auts)) ≡ false
+        → autsOutcome w family auc rand auts n ≡ unlessPast w family auc from n (cond range kept reset)
+    unfolding autsOutcome
+    auts-on right = rw right
+
+  -- ---- when no refusal applies
+
+  module _ (count : ℕ) (rands buffer : Octets) (valid : validAuc w family auc ≡ true) (small : count ≤ mostVectors) where
+    module _ (hr : length rands ≡ randSize * orderCount count) (hb : length buffer ≡ vectorSize * orderCount count)
+        (pair : equalPair rands (orderCount count) ≡ unequal) where
+      abbrev N : ℕ
+      N = orderCount count
+
+      order-outcome : orderOutcome w family auc count rands buffer ≡ unlessPast w family auc (auc .seqhe) N given
+      unfolding orderOutcome
+      order-outcome =
+          let named = lent-iff N (length rands) (length buffer) .1 (hr, hb) in
+          let six = unlessPast w family auc (auc .seqhe) N given in
+          not-refused count N (lentFor N (length rands) (length buffer)) rands six valid small named pair
+
+      -- a batch is given
+      pub order-given : auc .seqhe + N ≤ limit w → order w family auc count rands buffer ≡ givenWith w family auc (auc .seqhe) rands N given
+      unfolding order answerWith
+      order-given room = rw (order-outcome, not-past (auc .seqhe) N given room)
+
+      -- the last SEQ would pass the limit
+      pub order-past : limit w < auc .seqhe + N → order w family auc count rands buffer .outcome ≡ refused 6
+      unfolding order answerWith
+      order-past past = rw (order-outcome, is-past (auc .seqhe) N given past)
+
+    -- a batch is given, SEQ_HE kept or reset
+    module _ (hr : length rands ≡ randSize * resyncCount count) (hb : length buffer ≡ vectorSize * resyncCount count)
+        (pair : equalPair rands (resyncCount count) ≡ unequal)
+        (rand auts : Octets) (hrand : length rand ≡ randSize) (hauts : length auts ≡ autsSize)
+        (right : (range rand auts (resyncCount count) || macSRight (family .under (auc .keys)) rand auts) ≡ true)
+        (room : from rand auts (resyncCount count) + resyncCount count ≤ limit w) where
       abbrev n : ℕ
-      n = countOf count
+      n = resyncCount count
 
-      -- the answer that sends a batch
-      abbrev pub sentWith : Outcome → AucAnswer
-      sentWith outcome = record {
-        outcome = outcome;
-        n = n;
-        auc = after w auc (startOf (auc .seqhe) ms n) n;
-        batch = batchFrom w family auc (startOf (auc .seqhe) ms n) rands n;
-      }
+      abbrev told : Outcome
+      told = cond (range rand auts n) kept reset
 
-      pub resync-outcome : (inRange (auc .seqhe) ms n || macSRight F rand auts) ≡ true → startOf (auc .seqhe) ms n + n ≤ limit w
-          → resyncOutcome w family auc count rands buffer rand auts ≡ cond (inRange (auc .seqhe) ms n) kept reset
+      resync-outcome : resyncOutcome w family auc count rands buffer rand auts ≡ told
       unfolding resyncOutcome
-      resync-outcome right room =
-          not-refused count n (lentAll n rands buffer rand auts) rands _ valid small (lent-all-iff n rands buffer rand auts .1 (lent-iff n rands buffer .1 (hr, hb), hrand, hauts)) pair
-          ∙ rw (not-five (inRange (auc .seqhe) ms n) (macSRight F rand auts) right, not-past (startOf (auc .seqhe) ms n) n (cond (inRange (auc .seqhe) ms n) kept reset) room)
+      resync-outcome =
+          rw (lent-iff n (length rands) (length buffer) .1 (hr, hb), lent-auts-iff (length rand) (length auts) .1 (hrand, hauts))
+          (not-refused count n true rands (autsOutcome w family auc rand auts n) valid small refl pair
+          ∙ auts-on rand auts n (not-five (range rand auts n) (macSRight (family .under (auc .keys)) rand auts) right)
+          ∙ not-past (from rand auts n) n told room)
 
-      with-outcome : (b : Bool) → answerWith w family auc (startOf (auc .seqhe) ms n) rands n buffer (cond b kept reset) ≡ sentWith (cond b kept reset)
-      unfolding answerWith
-      with-outcome true = refl
-      with-outcome false = refl
-
-      pub resync-sent : (inRange (auc .seqhe) ms n || macSRight F rand auts) ≡ true → startOf (auc .seqhe) ms n + n ≤ limit w
-          → resync w family auc count rands buffer rand auts ≡ sentWith (cond (inRange (auc .seqhe) ms n) kept reset)
+      pub resync-given : resync w family auc count rands buffer rand auts ≡ givenWith w family auc (from rand auts n) rands n told
       unfolding resync
-      resync-sent right room = rw (resync-outcome right room) (with-outcome (inRange (auc .seqhe) ms n))
+      resync-given = rw resync-outcome (answer-given w family auc (from rand auts n) rands n buffer told (told-batch (range rand auts n)))

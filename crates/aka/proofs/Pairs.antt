@@ -110,7 +110,10 @@ module _ (rands : Octets) where
             inside = omega (arith, found .high);
             same = ap (randAt rands) (found .first) ∙ found .same;
             least = λ i′ j′ h g l s. ⊎-elim
-                (λ (here : i ≡ i′). inr (found .first ∙ here, not-before j′ b (λ before. found .none j′ (omega arith) before (ap (randAt rands) here ∙ s))))
+                (λ (here : i ≡ i′). inr (
+                  found .first ∙ here,
+                  not-before j′ b (λ before. found .none j′ (omega arith) before (ap (randAt rands) here ∙ s)),
+                ))
                 (λ (later : i < i′). inl (omega (arith, found .first)))
                 (eq-or-lt-of-le h);
           }

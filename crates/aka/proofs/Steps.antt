@@ -41,13 +41,13 @@ module _ (rands : Octets) (n i : ℕ) where
 
 -- ---- a batch, a vector at a time
 
-module _ (w : ℕ) (family : Family) (auc : Auc) (start : ℕ) (rands : Octets) where
-  pub batch-none : batchFrom w family auc start rands 0 ≡ []
+module _ (w : ℕ) (family : Family) (auc : Auc) (from : ℕ) (rands : Octets) where
+  pub batch-none : batchFrom w family auc from rands 0 ≡ []
   unfolding batchFrom joined
   batch-none = refl
 
   pub batch-next : (k : ℕ)
-      → batchFrom w family auc start rands (k + 1)
-      ≡ batchFrom w family auc start rands k ++ writeVector (vectorFrom w family auc start rands k)
+      → batchFrom w family auc from rands (k + 1)
+      ≡ batchFrom w family auc from rands k ++ writeVector (vectorFrom w family auc from rands k)
   unfolding batchFrom joined
   batch-next k = rw (add-one k)

@@ -5,7 +5,8 @@ use mathlib.Core.Bool.{Bool, _&&_, not, cond}
 use lib.Dec.{eqb, ltb, leb}
 use lib.ListN.{length}
 use Rattle.octets.specs.Octets.{Octets, xor, equal, encode, decode}
-use Rattle.aka.specs.Layout.{Vector, randSize, sqnSize, autsSize, vectorSize, mostVectors, randAt, writeAutn, writeVector, readAuts, joined}
+use Rattle.aka.specs.Layout.{Vector, writeAutn, writeVector, readAuts}
+use Rattle.aka.specs.Layout.{randSize, sqnSize, autsSize, vectorSize, mostVectors, randAt, joined}
 use Rattle.aka.specs.Functions.{Keys, Functions, Family, dummyAmf}
 use Rattle.aka.specs.Sequence.{D, indices, limit, sqnOf, seqOf}
 
@@ -34,23 +35,36 @@ makeVector F sqn amf rand = record {
   autn = makeAutn F sqn amf rand;
 }
 
--- ---- a batch: n vectors whose SEQ are counted from `start`, places from 0
+-- ---- how many vectors: the count that results
 
--- a count of 0 means the default, 5
-abbrev pub countOf : (count : ℕ) → ℕ
-countOf count = cond (eqb count 0) 5 count
+-- a count of 0 means the default
+abbrev pub countOf : (default count : ℕ) → ℕ
+countOf default count = cond (eqb count 0) default count
+
+-- the default, 5
+abbrev pub defaultCount : ℕ
+defaultCount = mostVectors
+
+-- of an order, and of a resynchronisation
+abbrev pub orderCount : (count : ℕ) → ℕ
+orderCount count = countOf defaultCount count
+
+abbrev pub resyncCount : (count : ℕ) → ℕ
+resyncCount count = countOf defaultCount count
+
+-- ---- a batch: n vectors whose SEQ follow the number `from`, places from 0
 
 -- SEQ goes up by 1 for each vector
-abbrev pub seqAt : (start k : ℕ) → ℕ
-seqAt start k = start + 1 + k
+abbrev pub seqAt : (from k : ℕ) → ℕ
+seqAt from k = from + 1 + k
 
 -- all vectors of a batch carry the next index
 abbrev pub indAt : Auc → (k : ℕ) → ℕ
 indAt auc k = auc .next
 
--- SEQ_HE becomes the last SEQ; the next index goes up by 1, after the last index to 0
-abbrev pub after : (w : ℕ) → Auc → (start n : ℕ) → Auc
-after w auc start n = record { keys = auc .keys; amf = auc .amf; seqhe = start + n; next = (auc .next + 1) % indices w }
+-- the record after it: SEQ_HE becomes the last SEQ; the next index goes up by 1, after the last index to 0
+abbrev pub afterBatch : (w : ℕ) → Auc → (from n : ℕ) → Auc
+afterBatch w auc from n = record { keys = auc .keys; amf = auc .amf; seqhe = from + n; next = (auc .next + 1) % indices w }
 
 -- ---- the earliest pair of equal RANDs (document 01: of equal challenges)
 
@@ -94,8 +108,8 @@ unfoldable pub inRange : (seqhe seqms n : ℕ) → Bool
 inRange seqhe seqms n = leb seqms seqhe && leb (seqhe + n) (seqms + D)
 
 -- in range SEQ_HE is kept; otherwise it first becomes SEQ_MS
-abbrev pub startOf : (seqhe seqms n : ℕ) → ℕ
-startOf seqhe seqms n = cond (inRange seqhe seqms n) seqhe seqms
+abbrev pub keptOrReset : (seqhe seqms n : ℕ) → ℕ
+keptOrReset seqhe seqms n = cond (inRange seqhe seqms n) seqhe seqms
 
 -- ---- the answer
 
@@ -135,18 +149,20 @@ pub record AucAnswer : Type 0 where
   pub auc : Auc  -- the next record
   pub batch : Octets  -- what the buffer lent for the batch holds at the end
 
+-- ---- refusals: `rest` is the outcome where they do not apply
+
 -- refusal 4 applies where there is a pair
 abbrev pub unlessRepeated : Pair → (rest : Outcome) → Outcome
 unlessRepeated unequal rest = rest
 unlessRepeated (equalAt i j) rest = repeated i j
 
--- 16n octets of RANDs and 72n octets to fill
-unfoldable pub lentFor : (n : ℕ) (rands buffer : Octets) → Bool
-lentFor n rands buffer = eqb (length rands) (randSize * n) && eqb (length buffer) (vectorSize * n)
+-- 16n octets of RANDs and 72n octets to fill, by their lengths
+unfoldable pub lentFor : (n rands buffer : ℕ) → Bool
+lentFor n rands buffer = eqb rands (randSize * n) && eqb buffer (vectorSize * n)
 
--- and besides, RAND and AUTS of theirs
-unfoldable pub lentAll : (n : ℕ) (rands buffer rand auts : Octets) → Bool
-lentAll n rands buffer rand auts = lentFor n rands buffer && eqb (length rand) randSize && eqb (length auts) autsSize
+-- and of a synchronisation failure RAND and AUTS, by theirs
+unfoldable pub lentAuts : (rand auts : ℕ) → Bool
+lentAuts rand auts = eqb rand randSize && eqb auts autsSize
 
 module _ (w : ℕ) (family : Family) (auc : Auc) where
   -- the functions of this subscriber
@@ -156,13 +172,6 @@ module _ (w : ℕ) (family : Family) (auc : Auc) where
   -- a valid record: refusal 1 does not apply to it
   unfoldable pub validAuc : Bool
   validAuc = family .known (auc .keys .set) && leb (auc .seqhe) (limit w) && ltb (auc .next) (indices w)
-
-  -- the vector at place k
-  abbrev pub vectorFrom : (start : ℕ) (rands : Octets) (k : ℕ) → Vector
-  vectorFrom start rands k = makeVector F (encode sqnSize (sqnOf w (seqAt start k) (indAt auc k))) (auc .amf) (randAt rands k)
-
-  unfoldable pub batchFrom : (start : ℕ) (rands : Octets) (n : ℕ) → Octets
-  batchFrom start rands n = joined (λ k. writeVector (vectorFrom start rands k)) n
 
   -- refusals 1 to 4, which order and resynchronisation share; n is the count that results, `lent`: each lent part has the length named
   unfoldable pub unlessRefused : (count n : ℕ) (lent : Bool) (rands : Octets) (rest : Outcome) → Outcome
@@ -174,45 +183,69 @@ module _ (w : ℕ) (family : Family) (auc : Auc) where
       rest)))
 
   -- refusal 6: the last SEQ would pass the limit
-  unfoldable pub unlessPast : (start n : ℕ) (rest : Outcome) → Outcome
-  unlessPast start n rest = cond (ltb (limit w) (start + n)) (refused 6) rest
+  unfoldable pub unlessPast : (from n : ℕ) (rest : Outcome) → Outcome
+  unlessPast from n rest = cond (ltb (limit w) (from + n)) (refused 6) rest
 
-  -- what goes with each outcome: next record and batch, or record and buffer as they were
-  unfoldable pub answerWith : (start : ℕ) (rands : Octets) (n : ℕ) (buffer : Octets) → Outcome → AucAnswer
-  answerWith start rands n buffer given = record { outcome = given; n = n; auc = after w auc start n; batch = batchFrom start rands n }
-  answerWith start rands n buffer kept = record { outcome = kept; n = n; auc = after w auc start n; batch = batchFrom start rands n }
-  answerWith start rands n buffer reset = record { outcome = reset; n = n; auc = after w auc start n; batch = batchFrom start rands n }
-  answerWith start rands n buffer (refused number) = record { outcome = refused number; n = 0; auc = auc; batch = buffer }
-  answerWith start rands n buffer (repeated i j) = record { outcome = repeated i j; n = 0; auc = auc; batch = buffer }
+  -- ---- what goes with an outcome
 
-  -- a count, that many RANDs, and a buffer for the batch
+  -- the vector at place k
+  abbrev pub vectorFrom : (from : ℕ) (rands : Octets) (k : ℕ) → Vector
+  vectorFrom from rands k = makeVector F (encode sqnSize (sqnOf w (seqAt from k) (indAt auc k))) (auc .amf) (randAt rands k)
+
+  unfoldable pub batchFrom : (from : ℕ) (rands : Octets) (n : ℕ) → Octets
+  batchFrom from rands n = joined (λ k. writeVector (vectorFrom from rands k)) n
+
+  -- a batch, and the record after it
+  abbrev pub givenWith : (from : ℕ) (rands : Octets) (n : ℕ) → Outcome → AucAnswer
+  givenWith from rands n outcome = record { outcome = outcome; n = n; auc = afterBatch w auc from n; batch = batchFrom from rands n }
+
+  -- a refusal: record and buffer as they were
+  abbrev pub refusedWith : (buffer : Octets) → Outcome → AucAnswer
+  refusedWith buffer outcome = record { outcome = outcome; n = 0; auc = auc; batch = buffer }
+
+  unfoldable pub answerWith : (from : ℕ) (rands : Octets) (n : ℕ) (buffer : Octets) → Outcome → AucAnswer
+  answerWith from rands n buffer outcome =
+      cond (eqb (refusalOf outcome) 0) (givenWith from rands n outcome)
+      (refusedWith buffer outcome)
+
+  -- ---- RAND and AUTS of a synchronisation failure, where refusals 1 to 4 do not apply
+
+  module _ (rand auts : Octets) (n : ℕ) where
+    -- SEQ_MS
+    abbrev ms : ℕ
+    ms = seqMsIn w F rand auts
+
+    -- SEQ_HE, kept or reset: the batch follows it
+    abbrev pub resyncFrom : ℕ
+    resyncFrom = keptOrReset (auc .seqhe) ms n
+
+    unfoldable pub autsOutcome : Outcome
+    autsOutcome =
+        cond (not (inRange (auc .seqhe) ms n) && not (macSRight F rand auts)) (refused 5)
+        (unlessPast resyncFrom n
+        (cond (inRange (auc .seqhe) ms n) kept reset))
+
+  -- ---- the whole answers, to a count, that many RANDs, and a buffer for the batch
+
   module _ (count : ℕ) (rands buffer : Octets) where
-    abbrev n : ℕ
-    n = countOf count
-
     unfoldable pub orderOutcome : Outcome
     orderOutcome =
-        unlessRefused count n (lentFor n rands buffer) rands
+        let n = orderCount count in
+        unlessRefused count n (lentFor n (length rands) (length buffer)) rands
         (unlessPast (auc .seqhe) n
         given)
 
     -- the AuC's whole answer to an order
     unfoldable pub order : AucAnswer
-    order = answerWith (auc .seqhe) rands n buffer orderOutcome
+    order = answerWith (auc .seqhe) rands (orderCount count) buffer orderOutcome
 
-    -- with RAND and AUTS of a synchronisation failure
     module _ (rand auts : Octets) where
-      -- SEQ_MS
-      abbrev ms : ℕ
-      ms = seqMsIn w F rand auts
-
       unfoldable pub resyncOutcome : Outcome
       resyncOutcome =
-          unlessRefused count n (lentAll n rands buffer rand auts) rands
-          (cond (not (inRange (auc .seqhe) ms n) && not (macSRight F rand auts)) (refused 5)
-          (unlessPast (startOf (auc .seqhe) ms n) n
-          (cond (inRange (auc .seqhe) ms n) kept reset)))
+          let n = resyncCount count in
+          unlessRefused count n (lentFor n (length rands) (length buffer) && lentAuts (length rand) (length auts)) rands
+          (autsOutcome rand auts n)
 
-      -- the AuC's whole answer to a resynchronisation
+      -- the AuC's whole answer to a resynchronisation, with RAND and AUTS of a synchronisation failure
       unfoldable pub resync : AucAnswer
-      resync = answerWith (startOf (auc .seqhe) ms n) rands n buffer resyncOutcome
+      resync = answerWith (resyncFrom rand auts (resyncCount count)) rands (resyncCount count) buffer resyncOutcome

@@ -1,18 +1,54 @@
--- What the AuC's answers promise, sentence by sentence of document 01, 'What the centre does'. These laws rule out its 'Slips that look right',
--- and the centres that it shuts out by name. Assumes nothing.
+-- What the AuC's answers promise, sentence by sentence of document 01, 'What the centre does'. These laws rule out its
+-- 'Slips that look right', and the centres that it shuts out by name. Assumes nothing.
 use Prim.Native.Nat.{ℕ, suc, _+_, _*_, _^_, _≤_, _<_}
 use mathlib.Core.Bool.{Bool, true, false}
 use mathlib.Core.List.{[]}
 use mathlib.Core.Logic.{_⊎_, _↔_}
+use mathlib.Core.Option.{none, some}
 use mathlib.Core.Path.{_≡_}
 use lib.ListN.{length}
 use Rattle.octets.specs.Octets.{Octets, part}
-use Rattle.aka.specs.Layout.{Vector, randSize, amfSize, autsSize, vectorSize, randAt, readAutn, vectorAt, handedBack}
+use Rattle.aka.specs.Layout.{
+  Vector,
+  randSize,
+  amfSize,
+  autsSize,
+  vectorSize,
+  mostVectors,
+  randAt,
+  readAutn,
+  vectorAt,
+  vectorOffset,
+  vectorPart,
+}
 use Rattle.aka.specs.Functions.{Keys, Functions, Family, Shaped, Lawful}
-use Rattle.aka.specs.Sequence.{D, indices, limit, seqOf}
+use Rattle.aka.specs.Sequence.{D, sqnBits, indices, limit, seqOf}
 use Rattle.aka.specs.Usim.{seqIn, indIn, macRight}
 use Rattle.aka.specs.UsimLaws.{autsOf}
-use Rattle.aka.specs.Auc.{Auc, AucAnswer, newAuc, unequal, equalAt, given, kept, reset, refused, repeated, refusalOf, firstOf, secondOf, validAuc, countOf, equalPair, inRange, macSRight, seqMsIn, order, resync}
+use Rattle.aka.specs.Auc.{
+  Auc,
+  AucAnswer,
+  newAuc,
+  unequal,
+  equalAt,
+  given,
+  kept,
+  reset,
+  refused,
+  repeated,
+  refusalOf,
+  firstOf,
+  secondOf,
+  validAuc,
+  orderCount,
+  resyncCount,
+  equalPair,
+  inRange,
+  macSRight,
+  seqMsIn,
+  order,
+  resync,
+}
 
 -- 'the earliest pair of equal challenges (smallest first place, then second, from 0)'
 pub record Earliest (rands : Octets) (n i j : ℕ) : Type 0 where
@@ -26,62 +62,59 @@ pub record Earliest (rands : Octets) (n i j : ℕ) : Type 0 where
 abbrev pub Range : (seqhe seqms n : ℕ) → Type 0
 Range seqhe seqms n = (seqms ≤ seqhe) × (seqhe + n ≤ seqms + D)
 
--- a batch of one to five vectors, and a place of it
-pub record PlaceOf (batch : Octets) (k n : ℕ) : Type 0 where
-  pub size : length batch ≡ vectorSize * n
-  pub most : n ≤ 5
+-- place k of a batch of n vectors, one to five, in `size` octets: refusal 3 does not apply
+pub record PlaceOf (size k n : ℕ) : Type 0 where
+  pub whole : size ≡ vectorSize * n
+  pub most : n ≤ mostVectors
   pub inside : k < n
 
-module _ (w : ℕ) (family : Family) (auc : Auc) (count : ℕ) (rands buffer : Octets) where
+-- n is the count that results
+module _ (w : ℕ) (family : Family) (auc : Auc) (count n : ℕ) (rands buffer : Octets) where
   abbrev F : Functions
   F = family .under (auc .keys)
-
-  -- the count that results
-  abbrev n : ℕ
-  n = countOf count
-
-  -- RANDs and buffer have the lengths named
-  pub record Lent : Type 0 where
-    pub rands-size : length rands ≡ randSize * n
-    pub buffer-size : length buffer ≡ vectorSize * n
 
   -- refusals 1, 2 and 4 do not apply
   pub record Asking : Type 0 where
     pub valid : validAuc w family auc ≡ true
-    pub count-small : count ≤ 5
+    pub count-small : count ≤ mostVectors
     pub unequal-rands : equalPair rands n ≡ unequal
 
-  -- nor does 3, and the functions, keys and AMF are as they should be
+  -- refusal 3 does not apply to RANDs and buffer
+  pub record BatchSized : Type 0 where
+    pub rands-size : length rands ≡ randSize * n
+    pub buffer-size : length buffer ≡ vectorSize * n
+
+  -- refusals 1 to 4 do not apply; and the functions, keys and AMF are as they should be
   pub record Sound : Type 0 where
     pub asking : Asking
-    pub lent : Lent
-    pub width : w ≤ 48
+    pub sizes : BatchSized
+    pub width : w ≤ sqnBits
     pub lawful : Lawful family
     pub keys : Shaped (auc .keys)
     pub amf : length (auc .amf) ≡ amfSize
 
-  -- 'The lowest number that applies is given': 1 to 4; `Named`: each lent part has its length
+  -- refusals 1 to 4: 'The lowest number that applies is given'; `Named`: each lent part has the length named
   pub record Refuses (Named : Type 0) (answer : AucAnswer) : Type 0 where
     pub refusal1 : validAuc w family auc ≡ false → answer .outcome ≡ refused 1
-    pub refusal2 : validAuc w family auc ≡ true → 5 < count → answer .outcome ≡ refused 2
-    pub refusal3 : validAuc w family auc ≡ true → count ≤ 5 → (Named → ⊥) → answer .outcome ≡ refused 3
-    pub refusal4 : (i j : ℕ) → validAuc w family auc ≡ true → count ≤ 5 → Named → equalPair rands n ≡ equalAt i j
+    pub refusal2 : validAuc w family auc ≡ true → mostVectors < count → answer .outcome ≡ refused 2
+    pub refusal3 : validAuc w family auc ≡ true → count ≤ mostVectors → (Named → ⊥) → answer .outcome ≡ refused 3
+    pub refusal4 : (i j : ℕ) → validAuc w family auc ≡ true → count ≤ mostVectors → Named → equalPair rands n ≡ equalAt i j
         → answer .outcome ≡ repeated i j
     -- in document 01's numbers; 'the answer names the earliest pair'
     pub number1 : validAuc w family auc ≡ false → refusalOf (answer .outcome) ≡ 1
-    pub number2 : validAuc w family auc ≡ true → 5 < count → refusalOf (answer .outcome) ≡ 2
-    pub number3 : validAuc w family auc ≡ true → count ≤ 5 → (Named → ⊥) → refusalOf (answer .outcome) ≡ 3
-    pub pair4 : (i j : ℕ) → validAuc w family auc ≡ true → count ≤ 5 → Named → equalPair rands n ≡ equalAt i j
+    pub number2 : validAuc w family auc ≡ true → mostVectors < count → refusalOf (answer .outcome) ≡ 2
+    pub number3 : validAuc w family auc ≡ true → count ≤ mostVectors → (Named → ⊥) → refusalOf (answer .outcome) ≡ 3
+    pub pair4 : (i j : ℕ) → validAuc w family auc ≡ true → count ≤ mostVectors → Named → equalPair rands n ≡ equalAt i j
         → (refusalOf (answer .outcome) ≡ 4) × (firstOf (answer .outcome) ≡ i) × (secondOf (answer .outcome) ≡ j)
     -- 'is zero, save the pair in 4': of every answer, a batch too
     pub pair0 : (refusalOf (answer .outcome) ≡ 4 → ⊥) → (firstOf (answer .outcome) ≡ 0) × (secondOf (answer .outcome) ≡ 0)
 
-  -- the answer sends a batch whose SEQ are counted from `start`
-  module _ (start : ℕ) (answer : AucAnswer) where
+  -- no refusal: the answer has a batch whose SEQ follow the number `from`
+  module _ (from : ℕ) (answer : AucAnswer) where
     abbrev vec : ℕ → Vector
     vec k = vectorAt (answer .batch) k
 
-    pub record Sends : Type 0 where
+    pub record Generates : Type 0 where
       pub vectors : answer .n ≡ n
       pub size : length (answer .batch) ≡ vectorSize * n
       -- RAND as lent, and XRES, CK, IK of it
@@ -93,7 +126,7 @@ module _ (w : ℕ) (family : Family) (auc : Auc) (count : ℕ) (rands buffer : O
       pub amf : (k : ℕ) → k < n → readAutn (vec k .autn) .amf ≡ auc .amf
       pub mac : (k : ℕ) → k < n → macRight F (vec k .rand) (vec k .autn) ≡ true
       -- 'SEQ goes up by 1 for each vector.'
-      pub seq : (k : ℕ) → k < n → seqIn w F (vec k .rand) (vec k .autn) ≡ start + 1 + k
+      pub seq : (k : ℕ) → k < n → seqIn w F (vec k .rand) (vec k .autn) ≡ from + 1 + k
       -- 'All vectors of a batch carry the next index, which then goes up by 1, after 31 to 0'
       pub ind : (k : ℕ) → k < n → indIn w F (vec k .rand) (vec k .autn) ≡ auc .next
       pub next : suc (auc .next) < indices w → answer .auc .next ≡ suc (auc .next)
@@ -104,75 +137,106 @@ module _ (w : ℕ) (family : Family) (auc : Auc) (count : ℕ) (rands buffer : O
       pub same-keys : answer .auc .keys ≡ auc .keys
       pub same-amf : answer .auc .amf ≡ auc .amf
 
-  -- 'Record and lent buffers stay as they were; every other field of the answer .. is zero' (the pair: `Refuses`)
+  -- a refusal: 'Record and lent buffers stay as they were; every other field of the answer .. is zero' (the pair: `Refuses`)
   pub record Stays (answer : AucAnswer) : Type 0 where
     pub none : answer .n ≡ 0
     pub same-auc : answer .auc ≡ auc
     pub same-buffer : answer .batch ≡ buffer
 
-  -- ---- an order
+-- ---- an order: refusals 1, 2, 3, 4, 6
+
+module _ (w : ℕ) (family : Family) (auc : Auc) (count : ℕ) (rands buffer : Octets) where
+  abbrev orderN : ℕ
+  orderN = orderCount count
 
   abbrev ordered : AucAnswer
   ordered = order w family auc count rands buffer
 
+  abbrev OrderAsking : Type 0
+  OrderAsking = Asking w family auc count orderN rands buffer
+
+  abbrev OrderSized : Type 0
+  OrderSized = BatchSized w family auc count orderN rands buffer
+
   pub record OrderLaws : Type 0 where
-    pub refuses : Refuses Lent ordered
-    pub refusal6 : Asking → Lent → limit w < auc .seqhe + n → ordered .outcome ≡ refused 6
-    pub number6 : Asking → Lent → limit w < auc .seqhe + n → refusalOf (ordered .outcome) ≡ 6
+    pub refuses : Refuses w family auc count orderN rands buffer OrderSized ordered
+    -- 6: 'the last SEQ would pass the limit'
+    pub refusal6 : OrderAsking → OrderSized → limit w < auc .seqhe + orderN → ordered .outcome ≡ refused 6
+    pub number6 : OrderAsking → OrderSized → limit w < auc .seqhe + orderN → refusalOf (ordered .outcome) ≡ 6
     -- otherwise a batch is given
-    pub not-refused : Asking → Lent → auc .seqhe + n ≤ limit w → ordered .outcome ≡ given
-    pub sends : Sound → ordered .outcome ≡ given → Sends (auc .seqhe) ordered
-    pub stays : (refusalOf (ordered .outcome) ≡ 0 → ⊥) → Stays ordered
+    pub not-refused : OrderAsking → OrderSized → auc .seqhe + orderN ≤ limit w → ordered .outcome ≡ given
+    pub generates : Sound w family auc count orderN rands buffer → ordered .outcome ≡ given
+        → Generates w family auc count orderN rands buffer (auc .seqhe) ordered
+    pub stays : (refusalOf (ordered .outcome) ≡ 0 → ⊥) → Stays w family auc count orderN rands buffer ordered
     -- a valid record is followed by a valid record
     pub stays-valid : validAuc w family auc ≡ true → validAuc w family (ordered .auc) ≡ true
 
-  -- ---- a resynchronisation
+-- ---- a resynchronisation: refusals 1 to 6
 
-  module _ (rand auts : Octets) where
-    -- RAND and AUTS have theirs too
-    pub record LentAll : Type 0 where
-      pub lent : Lent
-      pub rand-size : length rand ≡ randSize
-      pub auts-size : length auts ≡ autsSize
+module _ (w : ℕ) (family : Family) (auc : Auc) (count : ℕ) (rands buffer rand auts : Octets) where
+  abbrev resyncN : ℕ
+  resyncN = resyncCount count
 
-    abbrev ms : ℕ
-    ms = seqMsIn w F rand auts
+  abbrev resynced : AucAnswer
+  resynced = resync w family auc count rands buffer rand auts
 
-    abbrev range : Bool
-    range = inRange (auc .seqhe) ms n
+  abbrev ResyncAsking : Type 0
+  ResyncAsking = Asking w family auc count resyncN rands buffer
 
-    abbrev right : Bool
-    right = macSRight F rand auts
+  -- refusal 3 does not apply to RANDs and buffer, nor to RAND and AUTS
+  pub record ResyncSized : Type 0 where
+    pub sizes : BatchSized w family auc count resyncN rands buffer
+    pub rand-size : length rand ≡ randSize
+    pub auts-size : length auts ≡ autsSize
 
-    abbrev renewed : AucAnswer
-    renewed = resync w family auc count rands buffer rand auts
+  -- SEQ_MS as AUTS tells it
+  abbrev ms : ℕ
+  ms = seqMsIn w (family .under (auc .keys)) rand auts
 
-    pub record ResyncLaws : Type 0 where
-      pub refuses : Refuses LentAll renewed
-      -- 'recover SQN_MS', from the AUTS of a card with the same keys; its MAC-S is right
-      pub recovered : Sound → length rand ≡ randSize → (sqn : ℕ) → sqn < 2 ^ 48 → auts ≡ autsOf F sqn rand → (ms ≡ seqOf w sqn) × (right ≡ true)
-      -- 'In range: batch as usual, MAC-S not looked at.'
-      pub in-range : Asking → LentAll → range ≡ true → auc .seqhe + n ≤ limit w → renewed .outcome ≡ kept
-      pub in-range6 : Asking → LentAll → range ≡ true → limit w < auc .seqhe + n → renewed .outcome ≡ refused 6
-      pub kept-sends : Sound → renewed .outcome ≡ kept → Sends (auc .seqhe) renewed
-      -- 'Otherwise MAC-S is verified and SEQ_HE first becomes SEQ_MS.'
-      pub refusal5 : Asking → LentAll → range ≡ false → right ≡ false → renewed .outcome ≡ refused 5
-      pub number5 : Asking → LentAll → range ≡ false → right ≡ false → refusalOf (renewed .outcome) ≡ 5
-      pub out-of-range : Asking → LentAll → range ≡ false → right ≡ true → ms + n ≤ limit w → renewed .outcome ≡ reset
-      pub out-of-range6 : Asking → LentAll → range ≡ false → right ≡ true → limit w < ms + n → renewed .outcome ≡ refused 6
-      pub number6 : renewed .outcome ≡ refused 6 → refusalOf (renewed .outcome) ≡ 6
-      pub reset-sends : Sound → renewed .outcome ≡ reset → Sends ms renewed
-      pub stays : (refusalOf (renewed .outcome) ≡ 0 → ⊥) → Stays renewed
-      -- a valid record is followed by a valid record
-      pub stays-valid : validAuc w family auc ≡ true → validAuc w family (renewed .auc) ≡ true
+  abbrev range : Bool
+  range = inRange (auc .seqhe) ms resyncN
+
+  -- whether MAC-S is right
+  abbrev right : Bool
+  right = macSRight (family .under (auc .keys)) rand auts
+
+  abbrev ResyncSound : Type 0
+  ResyncSound = Sound w family auc count resyncN rands buffer
+
+  abbrev ResyncGenerates : (from : ℕ) → Type 0
+  ResyncGenerates from = Generates w family auc count resyncN rands buffer from resynced
+
+  -- 6: 'the last SEQ would pass the limit': from SEQ_HE in range, from SEQ_MS on a reset
+  abbrev pub Past : Type 0
+  Past = ((range ≡ true) × (limit w < auc .seqhe + resyncN)) ⊎ ((range ≡ false) × (right ≡ true) × (limit w < ms + resyncN))
+
+  pub record ResyncLaws : Type 0 where
+    pub refuses : Refuses w family auc count resyncN rands buffer ResyncSized resynced
+    -- 'recover SQN_MS', from the AUTS of a card with the same keys; its MAC-S is right
+    pub recovered : ResyncSound → length rand ≡ randSize → (sqn : ℕ) → sqn < 2 ^ sqnBits
+        → auts ≡ autsOf (family .under (auc .keys)) sqn rand → (ms ≡ seqOf w sqn) × (right ≡ true)
+    -- 'In range: batch as usual, MAC-S not looked at.'
+    pub in-range : ResyncAsking → ResyncSized → range ≡ true → auc .seqhe + resyncN ≤ limit w → resynced .outcome ≡ kept
+    pub kept-generates : ResyncSound → resynced .outcome ≡ kept → ResyncGenerates (auc .seqhe)
+    -- 'Otherwise MAC-S is verified and SEQ_HE first becomes SEQ_MS.'
+    pub out-of-range : ResyncAsking → ResyncSized → range ≡ false → right ≡ true → ms + resyncN ≤ limit w → resynced .outcome ≡ reset
+    pub reset-generates : ResyncSound → resynced .outcome ≡ reset → ResyncGenerates ms
+    -- 5: 'out of range and MAC-S wrong'
+    pub refusal5 : ResyncAsking → ResyncSized → range ≡ false → right ≡ false → resynced .outcome ≡ refused 5
+    pub number5 : ResyncAsking → ResyncSized → range ≡ false → right ≡ false → refusalOf (resynced .outcome) ≡ 5
+    pub refusal6 : ResyncAsking → ResyncSized → Past → resynced .outcome ≡ refused 6
+    pub number6 : ResyncAsking → ResyncSized → Past → refusalOf (resynced .outcome) ≡ 6
+    pub stays : (refusalOf (resynced .outcome) ≡ 0 → ⊥) → Stays w family auc count resyncN rands buffer resynced
+    -- a valid record is followed by a valid record
+    pub stays-valid : validAuc w family auc ≡ true → validAuc w family (resynced .auc) ≡ true
 
 pub record AucPromise (w : ℕ) (family : Family) : Type 0 where
   pub orders : (auc : Auc) (count : ℕ) (rands buffer : Octets) → OrderLaws w family auc count rands buffer
   pub resyncs : (auc : Auc) (count : ℕ) (rands buffer rand auts : Octets) → ResyncLaws w family auc count rands buffer rand auts
-  -- 'a count of 0 means the default, 5'
-  pub default-order : (auc : Auc) (rands buffer : Octets) → order w family auc 0 rands buffer ≡ order w family auc 5 rands buffer
+  -- 'a count of 0 means the default, 5', the most that a batch has
+  pub default-order : (auc : Auc) (rands buffer : Octets) → order w family auc 0 rands buffer ≡ order w family auc mostVectors rands buffer
   pub default-resync : (auc : Auc) (rands buffer rand auts : Octets)
-      → resync w family auc 0 rands buffer rand auts ≡ resync w family auc 5 rands buffer rand auts
+      → resync w family auc 0 rands buffer rand auts ≡ resync w family auc mostVectors rands buffer rand auts
   -- refusal 1: 'unknown set, SEQ, index past its range'
   pub valid : (auc : Auc)
       → (validAuc w family auc ≡ true) ↔ ((family .known (auc .keys .set) ≡ true) × (auc .seqhe ≤ limit w) × (auc .next < indices w))
@@ -181,6 +245,9 @@ pub record AucPromise (w : ℕ) (family : Family) : Type 0 where
   pub pair : (rands : Octets) (n i j : ℕ) → equalPair rands n ≡ equalAt i j → Earliest rands n i j
   pub no-pair : (rands : Octets) (n : ℕ) → equalPair rands n ≡ unequal
       → (i j : ℕ) → i < j → j < n → randAt rands i ≡ randAt rands j → ⊥
-  -- 'The vector at place k (from 0) of a batch is handed back as that part'; 'an empty part stands for refusal 3, the only one'
-  pub at-place : (batch : Octets) (k n : ℕ) → PlaceOf batch k n → handedBack batch k ≡ part (72 * k) 72 batch
-  pub no-place : (batch : Octets) (k : ℕ) → ((n : ℕ) → PlaceOf batch k n → ⊥) → handedBack batch k ≡ []
+  -- 'The vector at place k (from 0) of a batch is handed back as that part': where it begins, and its octets
+  pub at-offset : (size k n : ℕ) → PlaceOf size k n → vectorOffset size k ≡ some (vectorSize * k)
+  pub at-place : (batch : Octets) (k n : ℕ) → PlaceOf (length batch) k n → vectorPart batch k ≡ part (vectorSize * k) vectorSize batch
+  -- 'an empty part stands for refusal 3, the only one'
+  pub no-offset : (size k : ℕ) → ((n : ℕ) → PlaceOf size k n → ⊥) → vectorOffset size k ≡ none
+  pub no-place : (batch : Octets) (k : ℕ) → ((n : ℕ) → PlaceOf (length batch) k n → ⊥) → vectorPart batch k ≡ []

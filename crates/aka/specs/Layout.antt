@@ -3,6 +3,7 @@
 use Prim.Native.Nat.{ℕ, zero, suc, _+_, _*_, _/_, _%_}
 use mathlib.Core.Bool.{Bool, _&&_, cond}
 use mathlib.Core.List.{[], _++_}
+use mathlib.Core.Option.{Option, none, some}
 use lib.Dec.{eqb, ltb, leb}
 use lib.ListN.{length}
 use Rattle.octets.specs.Octets.{Octets, part}
@@ -125,16 +126,25 @@ octetsAt batch k = part (vectorSize * k) vectorSize batch
 abbrev pub vectorAt : Octets → ℕ → Vector
 vectorAt batch k = readVector (octetsAt batch k)
 
--- refusal 3 does not apply to place k of a batch: it has one to five whole vectors, and k is a place of theirs
-unfoldable pub isPlace : Octets → ℕ → Bool
-isPlace batch k =
-    leb vectorSize (length batch) && leb (length batch) (vectorSize * mostVectors)
-    && eqb (length batch % vectorSize) 0
-    && ltb k (length batch / vectorSize)
+-- refusal 3 does not apply to place k of a batch of `size` octets: it has one to five whole vectors, and k is a place of theirs
+unfoldable pub isPlace : (size k : ℕ) → Bool
+isPlace size k =
+    leb vectorSize size && leb size (vectorSize * mostVectors)
+    && eqb (size % vectorSize) 0
+    && ltb k (size / vectorSize)
 
--- the vector at place k, handed back as a part of the caller's own octets; an empty part stands for refusal 3
-unfoldable pub handedBack : Octets → ℕ → Octets
-handedBack batch k = cond (isPlace batch k) (octetsAt batch k) []
+-- where the vector at place k begins in a batch of `size` octets; none stands for refusal 3
+unfoldable pub vectorOffset : (size k : ℕ) → Option ℕ
+vectorOffset size k = cond (isPlace size k) (some (vectorSize * k)) none
+
+-- the vector that begins there
+abbrev pub partFrom : Option ℕ → Octets → Octets
+partFrom none batch = []
+partFrom (some offset) batch = part offset vectorSize batch
+
+-- the vector at place k, as a part of the caller's own octets; an empty part stands for refusal 3
+abbrev pub vectorPart : Octets → ℕ → Octets
+vectorPart batch k = partFrom (vectorOffset (length batch) k) batch
 
 -- f 0, f 1, .., f (n - 1), one behind the other
 unfoldable pub joined : (ℕ → Octets) → ℕ → Octets

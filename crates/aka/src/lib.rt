@@ -61,8 +61,11 @@ pub const AUTN_AT: usize = IK_AT + IK_SIZE;
 
 pub const VECTOR_SIZE: usize = AUTN_AT + AUTN_SIZE;
 
-// The most vectors of a batch, which is also the count that a count of 0 means.
+// The most vectors of a batch.
 pub const MOST_VECTORS: u64 = 5;
+
+// The count that a count of 0 means (specs/Auc).
+pub const DEFAULT_COUNT: u8 = 5;
 
 // ---- the node (specs/Vlr)
 
