@@ -1,69 +1,143 @@
-// The authentication centre, AuC (document 01: centre): its orders and its resynchronisation. Its record is handed on from `auc_record`.
+// The authentication centre, AuC (document 01: centre): its orders and its resynchronisation. Its record is handed on from `auc_record`,
+// the vectors of a batch from `batches`.
 pub use auc_record::Answer;
 pub use auc_record::Auc;
+use auc_record::Checked;
 pub use auc_record::Outcome;
 pub use auc_record::is_valid;
 pub use auc_record::new;
-use auc_steps::renew;
-use auc_steps::send;
+pub use batches::Offset;
+use batches::Series;
+pub use batches::offset_of;
+pub use batches::vector_at;
 ghost use Prim.Native.Nat.{_*_, _≤_, _<_};
+ghost use mathlib.Core.Bool.{cond};
 ghost use mathlib.Core.Path.{_≡_};
 ghost use lib.ListN.{length};
+ghost use Rattle.aes_tables.specs.RoundTable.{IsRoundTable};
+ghost use Rattle.functions.specs.Challenge.{keysOf, IsSchedule};
 ghost use Rattle.functions.specs.Sets.{sets};
-ghost use Rattle.aka.specs.Layout.{handedBack};
-ghost use Rattle.aka.specs.Sequence.{limit, width};
-ghost use Rattle.aka.specs.Auc.{order as orderOf, resync};
-ghost use Rattle.auc_record.specs.Views.{aucOf, answerOf};
-ghost use Rattle.auc_record.specs.Steps.{renewed};
+ghost use Rattle.aka.specs.Layout.{randSize, vectorSize, mostVectors};
+ghost use Rattle.aka.specs.Sequence.{width, indices, limit};
+ghost use Rattle.aka.specs.Auc.{order as orderOf, resync, kept as keptOf, reset, refusalOf, lentAuts};
+ghost use Rattle.aka.specs.Auc.{unlessPast, answerWith, resyncFrom, autsOutcome};
+ghost use Rattle.auc_record.specs.Views.{aucOf, outcomeOf, answerOf};
+
+// A batch of n vectors whose SEQ follow `from`, unless the last passes the limit: refusal 6. `outcome` is that of the batch.
+fn generate(
+    table: &[u32; 256],
+    schedule: &[u32; 44],
+    outcome: Outcome,
+    auc: Auc,
+    from: u64,
+    n: u8,
+    rands: &[u8],
+    batch: &mut [u8],
+) -> Answer
+    requires made { ⌜ IsRoundTable (now table) × IsSchedule (keysOf (auc .keys)) (now schedule) ⌝ }
+    requires room { ⌜ (n ≤ mostVectors) × (from ≤ limit width) × (auc .next < indices width) ⌝ }
+    requires lent { ⌜ (length (now rands) ≡ randSize * n) × (length (now batch) ≡ vectorSize * n) ⌝ }
+    requires given { ⌜ refusalOf (outcomeOf outcome) ≡ 0 ⌝ }
+    ensures { λ r. ⌜
+        answerOf r (now (batch .exit))
+        ≡ answerWith width sets (aucOf auc) from (now (rands .entry)) n (now (batch .entry))
+        (unlessPast width sets (aucOf auc) from n (outcomeOf outcome))
+        ⌝ }
+{
+    if aka::LIMIT < from + (n as u64) {
+        return auc_record::refused(Outcome::Refused(6), auc);
+    }
+    let keys = auc.keys;
+    let amf = auc.amf;
+    let s = Series {
+        keys,
+        amf,
+        from,
+        next: auc.next,
+    };
+    batches::fill(table, schedule, s, rands, n, batch);
+    Answer {
+        outcome,
+        n,
+        auc: auc_record::after_batch(auc, from, n),
+    }
+}
 
 // The AuC's whole answer to an order.
 pub fn order(auc: Auc, count: u64, rands: &[u8], batch: &mut [u8]) -> Answer
-    ensures { λ r. ⌜ answerOf r (now (batch .exit)) ≡ orderOf width sets (aucOf auc) count (now (rands .entry)) (now (batch .entry)) ⌝ }
+    ensures { λ r. ⌜
+        answerOf r (now (batch .exit)) ≡ orderOf width sets (aucOf auc) count (now (rands .entry)) (now (batch .entry))
+        ⌝ }
 {
-    let refusal = auc_record::check(auc, count, rands, batch.len(), true);
-    let Outcome::Given = refusal else {
-        return auc_record::refused(refusal, auc);
-    };
+    let checked = auc_record::check(auc, aka::DEFAULT_COUNT, count, rands, batch.len(), true);
+    match checked {
+        Checked::Refused(outcome) => auc_record::refused(outcome, auc),
+        Checked::Count(n) => {
+            let keys = auc.keys;
+            let table = aes::round_table();
+            let schedule = functions::schedule(keys);
+            generate(
+                &table,
+                &schedule,
+                Outcome::Given,
+                auc,
+                auc.seqhe,
+                n,
+                rands,
+                batch,
+            )
+        }
+    }
+}
+
+// How a resynchronisation that has a batch is told.
+fn told(kept: bool) -> Outcome
+    ensures { λ r. ⌜ outcomeOf r ≡ cond kept keptOf reset ⌝ }
+{
+    if kept {
+        return Outcome::Kept;
+    }
+    Outcome::Reset
+}
+
+// The answer to RAND and AUTS, where refusals 1 to 4 do not apply.
+fn resume(auc: Auc, n: u8, rand: [u8; 16], auts: [u8; 14], rands: &[u8], batch: &mut [u8]) -> Answer
+    requires room { ⌜ (n ≤ mostVectors) × (auc .seqhe ≤ limit width) × (auc .next < indices width) ⌝ }
+    requires lent { ⌜ (length (now rands) ≡ randSize * n) × (length (now batch) ≡ vectorSize * n) ⌝ }
+    ensures { λ r. ⌜
+        answerOf r (now (batch .exit))
+        ≡ answerWith width sets (aucOf auc) (resyncFrom width sets (aucOf auc) rand auts n) (now (rands .entry)) n (now (batch .entry))
+        (autsOutcome width sets (aucOf auc) rand auts n)
+        ⌝ }
+{
     let keys = auc.keys;
-    let t = aes::round_table();
-    let w = functions::schedule(keys);
-    send(
-        &t,
-        &w,
-        Outcome::Given,
+    let table = aes::round_table();
+    let schedule = functions::schedule(keys);
+    let ruling = resynchronisation::decide(&table, &schedule, keys, rand, auts, auc.seqhe, n);
+    if ruling.refused {
+        return auc_record::refused(Outcome::Refused(5), auc);
+    }
+    let outcome = told(ruling.kept);
+    generate(
+        &table,
+        &schedule,
+        outcome,
         auc,
-        auc.seqhe,
-        auc_record::count_of(count),
+        ruling.from,
+        n,
         rands,
         batch,
     )
 }
 
-// The vector at place k of a batch, as that part of the caller's own octets; an empty part stands for refusal 3.
-pub fn vector_at<'a>(batch: &'a [u8], k: u64) -> &'a [u8]
-    ensures { λ r. ⌜ now r ≡ handedBack (now (batch .entry)) k ⌝ }
+// Whether RAND and AUTS have their lengths.
+fn auts_fits(rand: &[u8], auts: &[u8]) -> bool
+    ensures { λ r. ⌜ r ≡ lentAuts (length (now (rand .entry))) (length (now (auts .entry))) ⌝ }
 {
-    lent_parts::vector_at(batch, k)
-}
-
-// The answer to RAND and AUTS once refusals 1 to 4 do not apply. RAND is taken up once, for SQN_MS and MAC-S.
-fn answer_auts(
-    auc: Auc,
-    n: u8,
-    rand: [u8; 16],
-    auts: [u8; 14],
-    rands: &[u8],
-    batch: &mut [u8],
-) -> Answer
-    requires room { ⌜ (n ≤ 5) × (auc .seqhe ≤ limit width) × (auc .next < 32) ⌝ }
-    requires lent { ⌜ (length (now rands) ≡ 16 * n) × (length (now batch) ≡ 72 * n) ⌝ }
-    ensures { λ r. ⌜ answerOf r (now (batch .exit)) ≡ renewed (aucOf auc) n (now (rands .entry)) (now (batch .entry)) rand auts ⌝ }
-{
-    let keys = auc.keys;
-    let t = aes::round_table();
-    let w = functions::schedule(keys);
-    let c = functions::prepare(&t, &w, keys, rand);
-    renew(&t, &w, c, auts, auc, n, rands, batch)
+    if rand.len() != aka::RAND_SIZE {
+        return false;
+    }
+    auts.len() == aka::AUTS_SIZE
 }
 
 // The AuC's whole answer to a resynchronisation, with RAND and AUTS of the synchronisation failure.
@@ -75,18 +149,22 @@ pub fn resynchronise(
     rands: &[u8],
     batch: &mut [u8],
 ) -> Answer
-    ensures { λ r. ⌜ answerOf r (now (batch .exit)) ≡ resync width sets (aucOf auc) count (now (rands .entry)) (now (batch .entry)) (now (rand .entry)) (now (auts .entry)) ⌝ }
+    ensures { λ r. ⌜
+        answerOf r (now (batch .exit))
+        ≡ resync width sets (aucOf auc) count (now (rands .entry)) (now (batch .entry)) (now (rand .entry)) (now (auts .entry))
+        ⌝ }
 {
-    let refusal = auc_record::check(auc, count, rands, batch.len(), auts::is_sized(rand, auts));
-    let Outcome::Given = refusal else {
-        return auc_record::refused(refusal, auc);
-    };
-    answer_auts(
-        auc,
-        auc_record::count_of(count),
-        octets::sixteen(rand),
-        octets::fourteen(auts),
-        rands,
-        batch,
-    )
+    let lent = auts_fits(rand, auts);
+    let checked = auc_record::check(auc, aka::DEFAULT_COUNT, count, rands, batch.len(), lent);
+    match checked {
+        Checked::Refused(outcome) => auc_record::refused(outcome, auc),
+        Checked::Count(n) => resume(
+            auc,
+            n,
+            octets::sixteen(rand),
+            octets::fourteen(auts),
+            rands,
+            batch,
+        ),
+    }
 }

@@ -6,6 +6,8 @@ use Rattle.auc_record.specs.declared.Auc as declaredAuc
 use Rattle.auc_record.specs.declared.Answer as declaredAnswer
 use Rattle.auc_record.specs.declared.Outcome.{Outcome}
 use Rattle.auc_record.specs.declared.Outcome.the-variants.{Given, Kept, Reset, Refused, Repeated}
+use Rattle.auc_record.specs.declared.pairs.Pair.{Pair}
+use Rattle.auc_record.specs.declared.pairs.Pair.the-variants.{Unequal, EqualAt}
 
 -- the record
 abbrev pub aucOf : declaredAuc.Auc → aka.Auc
@@ -22,3 +24,8 @@ outcomeOf (Repeated i j) = aka.repeated i j
 -- the whole answer, with what the buffer lent for the batch holds at the end
 abbrev pub answerOf : declaredAnswer.Answer → (batch : Octets) → aka.AucAnswer
 answerOf a batch = record { outcome = outcomeOf (a .outcome); n = a .n; auc = aucOf (a .auc); batch = batch }
+
+-- the pair that was found
+abbrev pub pairOf : Pair → aka.Pair
+pairOf Unequal = aka.unequal
+pairOf (EqualAt i j) = aka.equalAt i j

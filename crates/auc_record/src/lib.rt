@@ -1,17 +1,19 @@
-// The record of the authentication centre, AuC (document 01: centre), and the refusals that order and resynchronisation share.
+// The record of the authentication centre, AuC (document 01: centre), the refusals that order and resynchronisation share,
+// and the record that a batch leaves.
+mod pairs;
+
 use functions::Keys;
-ghost use Prim.Native.Nat.{_≤_};
+use pairs::Pair;
+ghost use Prim.Native.Nat.{_+_, _≤_, _<_};
 ghost use mathlib.Core.Path.{_≡_};
 ghost use Rattle.octets.specs.Octets.{Octets};
 ghost use Rattle.functions.specs.Challenge.{keysOf};
 ghost use Rattle.functions.specs.Sets.{sets};
-ghost use Rattle.aka.specs.Auc.{newAuc, validAuc, countOf};
-ghost use Rattle.aka.specs.Sequence.{width};
+ghost use Rattle.aka.specs.Layout.{mostVectors};
+ghost use Rattle.aka.specs.Sequence.{width, indices, limit};
+ghost use Rattle.aka.specs.Auc.{newAuc, validAuc, countOf, afterBatch, refusedWith};
 ghost use Rattle.auc_record.specs.Views.{aucOf, outcomeOf, answerOf};
-ghost use Rattle.auc_record.specs.Steps.{Checked, refusedWith};
-
-// The largest SEQ.
-const LIMIT: u64 = aka::LIMIT;
+ghost use Rattle.auc_record.specs.Checks.{Found, firstRefusals};
 
 // `seqhe` is SEQ_HE, `next` the next index.
 pub struct Auc {
@@ -37,6 +39,12 @@ pub struct Answer {
     pub auc: Auc,
 }
 
+// Refusals 1 to 4: the outcome where one of them applies, else the count that results.
+pub enum Checked {
+    Count(u8),
+    Refused(Outcome),
+}
+
 // A new record: SEQ_HE and the next index are 0.
 pub fn new(keys: Keys, amf: [u8; 2]) -> Auc
     ensures { λ r. ⌜ aucOf r ≡ newAuc (keysOf keys) amf ⌝ }
@@ -57,53 +65,68 @@ pub fn is_valid(auc: Auc) -> bool
     if !functions::is_known(keys.set) {
         return false;
     }
-    if LIMIT < auc.seqhe {
+    if aka::LIMIT < auc.seqhe {
         return false;
     }
-    auc.next < 32
+    (auc.next as u64) < aka::INDICES
 }
 
-// An answer that changes nothing.
+// The answer of a refusal: record and buffer stay as they are.
 pub fn refused(outcome: Outcome, auc: Auc) -> Answer
-    ensures { λ r. ⌜ ((buffer : Octets) → answerOf r buffer ≡ refusedWith (outcomeOf outcome) (aucOf auc) buffer) ⌝ }
+    ensures { λ r. ⌜ ((buffer : Octets) → answerOf r buffer ≡ refusedWith width sets (aucOf auc) buffer (outcomeOf outcome)) ⌝ }
 {
     Answer { outcome, n: 0, auc }
 }
 
-// A count of 0 means the default, 5.
-pub fn count_of(count: u64) -> u8
-    requires { ⌜ count ≤ 5 ⌝ }
-    ensures { λ r. ⌜ (r ≡ countOf count) × (r ≤ 5) ⌝ }
+// The record after a batch of n vectors whose SEQ follow `from`.
+pub fn after_batch(auc: Auc, from: u64, n: u8) -> Auc
+    requires { ⌜ (from + n ≤ limit width) × (auc .next < indices width) ⌝ }
+    ensures { λ r. ⌜ aucOf r ≡ afterBatch width (aucOf auc) from n ⌝ }
+{
+    let keys = auc.keys;
+    let amf = auc.amf;
+    Auc {
+        keys,
+        amf,
+        seqhe: from + (n as u64),
+        next: (((auc.next as u64) + 1) % aka::INDICES) as u8,
+    }
+}
+
+// A count of 0 means the default.
+fn count_of(default: u8, count: u64) -> u8
+    requires { ⌜ count ≤ mostVectors ⌝ }
+    ensures { λ r. ⌜ r ≡ countOf default count ⌝ }
 {
     if count == 0 {
-        return 5;
+        return default;
     }
     count as u8
 }
 
-// Refusals 1 to 4, else `Given`. `size` is the length of the buffer; `lent`: whatever else is lent has its length.
-pub fn check(auc: Auc, count: u64, rands: &[u8], size: usize, lent: bool) -> Outcome
-    ensures { λ r. ⌜ Checked (aucOf auc) count (now (rands .entry)) size lent r ⌝ }
+// Refusals 1 to 4. `size` is the length of the buffer; `lent`: whatever else is lent has its length.
+pub fn check(auc: Auc, default: u8, count: u64, rands: &[u8], size: usize, lent: bool) -> Checked
+    ensures { λ r. ⌜ Found (firstRefusals (aucOf auc) default count (now (rands .entry)) size lent) (countOf default count) r ⌝ }
 {
     if !is_valid(auc) {
-        return Outcome::Refused(1);
+        return Checked::Refused(Outcome::Refused(1));
     }
-    if 5 < count {
-        return Outcome::Refused(2);
+    if aka::MOST_VECTORS < count {
+        return Checked::Refused(Outcome::Refused(2));
     }
-    let n = count_of(count);
-    if rands.len() != 16 * (n as usize) {
-        return Outcome::Refused(3);
+    let n = count_of(default, count);
+    if rands.len() != aka::RAND_SIZE * (n as usize) {
+        return Checked::Refused(Outcome::Refused(3));
     }
     if size != aka::VECTOR_SIZE * (n as usize) {
-        return Outcome::Refused(3);
+        return Checked::Refused(Outcome::Refused(3));
     }
     if !lent {
-        return Outcome::Refused(3);
+        return Checked::Refused(Outcome::Refused(3));
     }
-    let pair = lent_parts::equal_pair(rands, n);
-    if pair.found {
-        return Outcome::Repeated(pair.first, pair.second);
-    }
-    Outcome::Given
+    let pair = pairs::equal_pair(rands, n);
+    let Pair::EqualAt(i, j) = pair else {
+        return Checked::Count(n);
+    };
+    Checked::Refused(Outcome::Repeated(i, j))
 }

@@ -1,8 +1,17 @@
 -- The code's values as the protocol has them. Assumes nothing: these are definitions.
+use Prim.Native.Nat.{ℕ}
+use mathlib.Core.Option.{Option, none, some}
 use Rattle.functions.specs.Challenge.{keysOf}
 use Rattle.aka.specs.Auc as aka
 use Rattle.batches.specs.declared.Series as declaredSeries
+use Rattle.batches.specs.declared.Offset.{Offset}
+use Rattle.batches.specs.declared.Offset.the-variants.{At, Nowhere}
 
--- the record that counts its vectors from `start`
+-- the record that a batch is made from; SEQ_HE is then the number that its SEQ follow
 abbrev pub countedBy : declaredSeries.Series → aka.Auc
-countedBy s = record { keys = keysOf (s .keys); amf = s .amf; seqhe = s .start; next = s .next }
+countedBy s = record { keys = keysOf (s .keys); amf = s .amf; seqhe = s .from; next = s .next }
+
+-- where a vector begins, if anywhere
+abbrev pub offsetIn : Offset → Option ℕ
+offsetIn (At offset) = some offset
+offsetIn Nowhere = none

@@ -1,6 +1,7 @@
-// Batches of authentication vectors: the vectors written one behind the other into lent octets.
+// Batches of authentication vectors: the vectors written one behind the other into lent octets, and one of them found again.
+mod vectors;
+
 use functions::Keys;
-use written_vectors::put_vector;
 ghost use Prim.Native.Nat.{_+_, _*_, _≤_, _<_};
 ghost use mathlib.Core.List.{_++_};
 ghost use mathlib.Core.Path.{_≡_};
@@ -8,48 +9,107 @@ ghost use lib.ListN.{length, take};
 ghost use Rattle.aes_tables.specs.RoundTable.{IsRoundTable};
 ghost use Rattle.functions.specs.Challenge.{keysOf, IsSchedule};
 ghost use Rattle.functions.specs.Sets.{sets};
-ghost use Rattle.aka.specs.Layout.{writeVector};
-ghost use Rattle.aka.specs.Sequence.{limit, width};
+ghost use Rattle.aka.specs.Layout.{randSize, vectorSize, mostVectors, writeVector, vectorOffset, vectorPart};
+ghost use Rattle.aka.specs.Sequence.{width, indices, limit};
 ghost use Rattle.aka.specs.Auc.{vectorFrom, batchFrom};
-ghost use Rattle.batches.specs.Views.{countedBy};
+ghost use Rattle.batches.specs.Views.{countedBy, offsetIn};
 
-// The octets of a vector.
-const SIZE: usize = aka::VECTOR_SIZE;
-
-// What the vectors of a batch are made with: `start` is the SEQ before the first, `next` the index of all.
+// What the vectors of a batch are made with: their SEQ follow `from`, `next` is the index of all.
 pub struct Series {
     pub keys: Keys,
     pub amf: [u8; 2],
-    pub start: u64,
+    pub from: u64,
     pub next: u8,
 }
 
+// Where a vector begins in a batch; `Nowhere` stands for refusal 3.
+pub enum Offset {
+    At(usize),
+    Nowhere,
+}
+
 // Puts the vector at place k behind those before it.
-fn put_at(t: &[u32; 256], w: &[u32; 44], s: Series, rands: &[u8], k: u8, batch: &mut [u8])
-    requires made { ⌜ IsRoundTable (now t) × IsSchedule (keysOf (s .keys)) (now w) ⌝ }
-    requires room { ⌜ (s .start + 1 + k ≤ limit width) × (s .next < 32) ⌝ }
-    requires lent { ⌜ (16 * k + 16 ≤ length (now rands)) × (72 * k + 72 ≤ length (now batch)) ⌝ }
-    ensures { λ _. ⌜ take (72 * k + 72) (now (batch .exit)) ≡ take (72 * k) (now (batch .entry)) ++ writeVector (vectorFrom width sets (countedBy s) (s .start) (now (rands .entry)) k) ⌝ }
+fn put_at(
+    table: &[u32; 256],
+    schedule: &[u32; 44],
+    s: Series,
+    rands: &[u8],
+    k: u8,
+    batch: &mut [u8],
+)
+    requires made { ⌜ IsRoundTable (now table) × IsSchedule (keysOf (s .keys)) (now schedule) ⌝ }
+    requires room { ⌜ (s .from + 1 + k ≤ limit width) × (s .next < indices width) ⌝ }
+    requires lent { ⌜ (randSize * k + randSize ≤ length (now rands)) × (vectorSize * k + vectorSize ≤ length (now batch)) ⌝ }
+    ensures { λ _. ⌜
+        take (vectorSize * k + vectorSize) (now (batch .exit))
+        ≡ take (vectorSize * k) (now (batch .entry)) ++ writeVector (vectorFrom width sets (countedBy s) (s .from) (now (rands .entry)) k)
+        ⌝ }
 {
     let keys = s.keys;
     let amf = s.amf;
-    let p = 16 * (k as usize);
-    let rand = octets::sixteen(&rands[p..p + 16]);
-    let sqn = tokens::sqn_octets(32 * (s.start + 1 + (k as u64)) + (s.next as u64));
-    let c = functions::prepare(t, w, keys, rand);
-    put_vector(t, w, c, sqn, amf, rand, batch, SIZE * (k as usize));
+    let p = aka::RAND_SIZE * (k as usize);
+    let rand = octets::sixteen(&rands[p..p + aka::RAND_SIZE]);
+    let sqn = tokens::sqn_octets(aka::INDICES * (s.from + 1 + (k as u64)) + (s.next as u64));
+    let c = functions::prepare(table, schedule, keys, rand);
+    vectors::put_vector(
+        table,
+        schedule,
+        c,
+        sqn,
+        amf,
+        rand,
+        batch,
+        aka::VECTOR_SIZE * (k as usize),
+    );
 }
 
 // Fills a buffer with a batch of n vectors.
-pub fn fill(t: &[u32; 256], w: &[u32; 44], s: Series, rands: &[u8], n: u8, batch: &mut [u8])
-    requires made { ⌜ IsRoundTable (now t) × IsSchedule (keysOf (s .keys)) (now w) ⌝ }
-    requires room { ⌜ (n ≤ 5) × (s .start + n ≤ limit width) × (s .next < 32) ⌝ }
-    requires lent { ⌜ (length (now rands) ≡ 16 * n) × (length (now batch) ≡ 72 * n) ⌝ }
-    ensures { λ _. ⌜ now (batch .exit) ≡ batchFrom width sets (countedBy s) (s .start) (now (rands .entry)) n ⌝ }
+pub fn fill(
+    table: &[u32; 256],
+    schedule: &[u32; 44],
+    s: Series,
+    rands: &[u8],
+    n: u8,
+    batch: &mut [u8],
+)
+    requires made { ⌜ IsRoundTable (now table) × IsSchedule (keysOf (s .keys)) (now schedule) ⌝ }
+    requires room { ⌜ (n ≤ mostVectors) × (s .from + n ≤ limit width) × (s .next < indices width) ⌝ }
+    requires lent { ⌜ (length (now rands) ≡ randSize * n) × (length (now batch) ≡ vectorSize * n) ⌝ }
+    ensures { λ _. ⌜ now (batch .exit) ≡ batchFrom width sets (countedBy s) (s .from) (now (rands .entry)) n ⌝ }
 {
     let mut k: u8 = 0;
     while k < n {
-        put_at(t, w, s, rands, k, batch);
+        put_at(table, schedule, s, rands, k, batch);
         k += 1;
     }
+}
+
+// Where the vector at place k begins in a batch of `size` octets.
+pub fn offset_of(size: usize, k: u64) -> Offset
+    ensures { λ r. ⌜ offsetIn r ≡ vectorOffset size k ⌝ }
+{
+    if size < aka::VECTOR_SIZE {
+        return Offset::Nowhere;
+    }
+    if aka::VECTOR_SIZE * (aka::MOST_VECTORS as usize) < size {
+        return Offset::Nowhere;
+    }
+    if size % aka::VECTOR_SIZE != 0 {
+        return Offset::Nowhere;
+    }
+    if (size / aka::VECTOR_SIZE) as u64 <= k {
+        return Offset::Nowhere;
+    }
+    Offset::At(aka::VECTOR_SIZE * (k as usize))
+}
+
+// The vector at place k, as the part of the caller's own batch that begins at its offset; an empty part stands for refusal 3.
+pub fn vector_at<'a>(batch: &'a [u8], k: u64) -> &'a [u8]
+    ensures { λ r. ⌜ now r ≡ vectorPart (now (batch .entry)) k ⌝ }
+{
+    let offset = offset_of(batch.len(), k);
+    let Offset::At(at) = offset else {
+        return &batch[0..0];
+    };
+    &batch[at..at + aka::VECTOR_SIZE]
 }

@@ -1,55 +1,83 @@
 -- `order` is the whole answer: the lowest refusal that applies, else the batch. Assumes nothing.
 use Prim.Native.Nat.{ℕ}
 use mathlib.Core.Bool.{true}
-use mathlib.Core.Path.{ap, _∙_}
-use native.Mathlib.Omega.{arith}
-use lib.ListN.{length}
-use Rattle.aka.specs.Auc.{given}
+use mathlib.Core.Path.{refl, _∙_}
+use Rattle.octets.specs.Octets.{Octets}
+use Rattle.functions.specs.Sets.{sets}
+use Rattle.aka.specs.Sequence.{width}
+use Rattle.aka.specs.Auc.{Auc, Outcome, given, unlessPast}
 use Rattle.auc_record.specs.Views.{aucOf}
-use Rattle.auc_record.specs.Steps.{Passed, sentFrom}
-use Rattle.auc.proofs.Answered.{when-given, order-refused, order-sent}
+use Rattle.auc.proofs.Answers.{Asked, asked, when-refused, when-asked, order-is}
 use borrow.Author.Needs.{needs}
 use Rattle.auc.proofs.order.Statement.{statement}
 use Rattle.auc.proofs.order.Tie as tie
 
+-- ---- the stations: key schedule, round table, the count, the check, from the last back
+
+abbrev scheduled : tie.After-generate-arg → tie.After-schedule
+scheduled c = c .before .before .before
+
+abbrev counted : tie.After-schedule → tie.After-known-told2
+counted c = c .before .before .before
+
+abbrev checked : tie.After-known-told2 → tie.After-check
+checked c = c .before .before .before
+
+abbrev entry : tie.After-check → tie.Start
+entry c = c .before .before .before
+
+module _ (c : tie.After-check) where
+  abbrev auc : Auc
+  auc = aucOf (entry c .args .auc)
+
+  abbrev count : ℕ
+  count = entry c .args .count
+
+  abbrev rands : Octets
+  rands = entry c .args .rands .now
+
+  abbrev buffer : Octets
+  buffer = entry c .args .batch .now
+
+  -- the batch follows SEQ_HE; the outcome behind refusals 1 to 4; both by the count that results
+  abbrev from : (m : ℕ) → ℕ
+  from m = auc .seqhe
+
+  abbrev outcome : (m : ℕ) → Outcome
+  outcome m = unlessPast width sets auc (auc .seqhe) m given
+
+-- the count that results, where refusals 1 to 4 do not apply
+request : (c : tie.After-known-told2) →
+    let k = checked c in
+    Asked (auc k) (count k) (rands k) (buffer k) true (c .before .checked2 .given .0 .0)
+request c = let k = checked c in asked (auc k) (count k) (rands k) (buffer k) true _ _ (c .before .checked2 .given .1) (k .check .ensures)
+
+generate-requires : tie.Need-generate-requires
+generate-requires c κs =
+    let s = scheduled c in
+    let r = request (counted s) in
+    ((s .before .round-table .ensures, s .schedule .ensures), ((r .few, r .seqhe, r .next), ((r .rands-size, r .buffer-size), refl)))
+
 returns : tie.Need-returns
 returns c =
-    let checked = c .before .before in
-    let args = checked .before .before .before .args in
-    c .refused .ensures (args .batch .now) ∙ order-refused (aucOf (args .auc)) (args .count) (args .rands .now) (args .batch .now) _ (checked .check .ensures) (c .before .match .keys2)
-
-passed : (c : tie.After-enum-told) →
-    let args = c .before .before .before .before .before .args in
-    Passed (aucOf (args .auc)) (args .count) (args .rands .now) (length (args .batch .now)) true
-passed c = when-given _ (c .enum-told .given .1) (c .before .before .check .ensures .passed)
-
-count-of-requires : tie.Need-count-of-requires
-count-of-requires c κs = passed (c .before .before .before .before .before) .small
-
-send-requires : tie.Need-send-requires
-send-requires c κs =
-    let counted = c .before in
-    let scheduled = counted .before .before .before in
-    let p = passed (scheduled .before .before .before) in (
-      (scheduled .before .round-table .ensures, scheduled .schedule .ensures),
-      ((counted .count-of .ensures .1, omega (arith, p .seqhe), p .next), (rw (counted .count-of .ensures .0) (p .rands-size), rw (counted .count-of .ensures .0) (p .buffer-size))),
-    )
+    let refusal = c .before .before in
+    let k = refusal .before .before in
+    c .refused .ensures (buffer k)
+    ∙ when-refused (auc k) (count k) (rands k) (buffer k) true (from k) (outcome k) _ _ (refusal .checked .given .1) (k .check .ensures)
+    ∙ order-is (auc k) (count k) (rands k) (buffer k)
 
 returns-2 : tie.Need-returns-2
 returns-2 c =
-    let sent = c .before .before in
-    let counted = sent .before .before in
-    let told = counted .before .before .before .before .before .before in
-    let checked = told .before .before in
-    let args = checked .before .before .before .args in
-    let auc = aucOf (args .auc) in
-    sent .send .ensures
-    ∙ ap (λ (n : ℕ). sentFrom auc (auc .seqhe) n (args .rands .now) (args .batch .now) given) (counted .count-of .ensures .0)
-    ∙ order-sent auc (args .count) (args .rands .now) (args .batch .now) _ (checked .check .ensures) (told .enum-told .given .1)
+    let generated = c .before .before in
+    let n = counted (scheduled (generated .before)) in
+    let k = checked n in
+    generated .generate .ensures
+    ∙ when-asked (auc k) (count k) (rands k) (buffer k) true (from k) (outcome k) _ _ (n .before .checked2 .given .1) (k .check .ensures)
+    ∙ order-is (auc k) (count k) (rands k) (buffer k)
 
 pub order-spec : {M : Type 1} → statement M
 order-spec =
     tie.close
     (tie.spec
-    (λ c κs. search needs) (λ c. search needs) (λ c κs. search needs) returns (λ c κs. search needs) (λ c κs. search needs)
-    count-of-requires send-requires (λ c. search needs) returns-2)
+    (λ c κs. search needs) (λ c. search needs) (λ c κs. search needs) (λ c. search needs) (λ c κs. search needs) (λ c κs. search needs)
+    generate-requires returns (λ c. search needs) returns-2)

@@ -1,73 +1,108 @@
--- `resynchronise` is the whole answer: the lowest refusal that applies, else the batch, kept or reset. Assumes nothing.
+-- `resynchronise` is the whole answer: the lowest refusal that applies, else the batch, SEQ_HE kept or reset. Assumes nothing.
 use Prim.Native.Nat.{ℕ}
-use mathlib.Core.Bool.{_&&_, and-eq-true-iff}
-use mathlib.Core.Path.{ap, ap₂, _∙_}
-use borrow.Author.Tests.{eqb-true}
-use lib.Dec.{eqb}
+use mathlib.Core.Bool.{Bool}
+use mathlib.Core.Path.{ap₂, _∙_}
 use lib.ListN.{length}
 use Rattle.octets.specs.Octets.{Octets}
-use Rattle.aka.specs.Auc.{countOf}
+use Rattle.functions.specs.Sets.{sets}
+use Rattle.aka.specs.Sequence.{width}
+use Rattle.aka.specs.Auc.{Auc, AucAnswer, Outcome, countOf, defaultCount, lentAuts, resyncFrom, autsOutcome, answerWith}
+use Rattle.aka.proofs.Outcomes.{lent-auts-iff}
 use Rattle.auc_record.specs.Views.{aucOf}
-use Rattle.auc_record.specs.Steps.{Passed, Checked, renewed}
-use Rattle.auc.proofs.Answered.{when-given, resync-refused, resync-sent}
+use Rattle.auc_record.specs.Checks.{firstRefusals, Found}
+use Rattle.auc.proofs.Answers.{Asked, asked, when-refused, when-asked, resync-is}
 use borrow.Author.Needs.{needs}
 use Rattle.auc.proofs.resynchronise.Statement.{statement}
 use Rattle.auc.proofs.resynchronise.Tie as tie
 
+-- ---- the stations: RAND and AUTS read, the count, the check, from the last back
+
+abbrev counted : tie.After-fourteen → tie.After-known-told2
+counted c = c .before .before
+
+abbrev checked : tie.After-known-told2 → tie.After-check
+checked c = c .before .before .before
+
 abbrev entry : tie.After-check → tie.Start
 entry c = c .before .before .before .before .before .before
 
-checked : (c : tie.After-check) →
-    Checked (aucOf (entry c .args .auc)) (entry c .args .count) (entry c .args .rands .now) (length (entry c .args .batch .now))
-    (eqb (length (entry c .args .rand .now)) 16 && eqb (length (entry c .args .auts .now)) 14) (c .check .result)
-checked c = rw (← c .before .is-sized .ensures) (c .check .ensures)
+module _ (c : tie.After-check) where
+  abbrev auc : Auc
+  auc = aucOf (entry c .args .auc)
 
-passed : (c : tie.After-enum-told) →
-    let args = entry (c .before .before) .args in
-    Passed (aucOf (args .auc)) (args .count) (args .rands .now) (length (args .batch .now)) (eqb (length (args .rand .now)) 16 && eqb (length (args .auts .now)) 14)
-passed c = when-given _ (c .enum-told .given .1) (checked (c .before .before) .passed)
+  abbrev count : ℕ
+  count = entry c .args .count
+
+  abbrev rands : Octets
+  rands = entry c .args .rands .now
+
+  abbrev buffer : Octets
+  buffer = entry c .args .batch .now
+
+  abbrev rand : Octets
+  rand = entry c .args .rand .now
+
+  abbrev auts : Octets
+  auts = entry c .args .auts .now
+
+  -- RAND and AUTS have their lengths
+  abbrev lent : Bool
+  lent = lentAuts (length rand) (length auts)
+
+  found : Found (firstRefusals auc defaultCount count rands (length buffer) lent) (countOf defaultCount count) (c .check .result)
+  found = rw (← c .before .auts-fits .ensures) (c .check .ensures)
+
+-- the count that results, where refusals 1 to 4 do not apply
+request : (c : tie.After-known-told2) →
+    let k = checked c in
+    Asked (auc k) (count k) (rands k) (buffer k) (lent k) (c .before .checked2 .given .0 .0)
+request c = let k = checked c in asked (auc k) (count k) (rands k) (buffer k) (lent k) _ _ (c .before .checked2 .given .1) (found k)
+
+sixteen-requires : tie.Need-sixteen-requires
+sixteen-requires c κs = lent-auts-iff _ _ .0 (request c .rest) .0
+
+fourteen-requires : tie.Need-fourteen-requires
+fourteen-requires c κs = lent-auts-iff _ _ .0 (request (c .before) .rest) .1
+
+resume-requires : tie.Need-resume-requires
+resume-requires c κs =
+    let r = request (counted (c .before)) in
+    ((r .few, r .seqhe, r .next), (r .rands-size, r .buffer-size))
+
+-- the batch follows SEQ_HE, kept or reset; the outcome behind refusals 1 to 4; both by the count that results
+abbrev from : tie.After-check → (m : ℕ) → ℕ
+from k m = resyncFrom width sets (auc k) (rand k) (auts k) m
+
+abbrev outcome : tie.After-check → (m : ℕ) → Outcome
+outcome k m = autsOutcome width sets (auc k) (rand k) (auts k) m
+
+abbrev answer : tie.After-check → (m : ℕ) (rand auts : Octets) → AucAnswer
+answer k m x y =
+    answerWith width sets (auc k) (resyncFrom width sets (auc k) x y m) (rands k) m (buffer k) (autsOutcome width sets (auc k) x y m)
 
 returns : tie.Need-returns
 returns c =
-    let args = entry (c .before .before) .args in
-    c .refused .ensures (args .batch .now)
-    ∙ resync-refused (aucOf (args .auc)) (args .count) (args .rands .now) (args .batch .now) _ (args .rand .now) (args .auts .now) (checked (c .before .before)) (c .before .match .keys2)
-
-count-of-requires : tie.Need-count-of-requires
-count-of-requires c κs = passed c .small
-
-sixteen-requires : tie.Need-sixteen-requires
-sixteen-requires c κs =
-    let args = entry (c .before .before .before) .args in
-    eqb-true _ _ (and-eq-true-iff (eqb (length (args .rand .now)) 16) (eqb (length (args .auts .now)) 14) .0 (passed (c .before) .named) .0)
-
-fourteen-requires : tie.Need-fourteen-requires
-fourteen-requires c κs =
-    let args = entry (c .before .before .before .before) .args in
-    eqb-true _ _ (and-eq-true-iff (eqb (length (args .rand .now)) 16) (eqb (length (args .auts .now)) 14) .0 (passed (c .before .before) .named) .1)
-
-answer-auts-requires : tie.Need-answer-auts-requires
-answer-auts-requires c κs =
-    let counted = c .before .before .before in
-    let p = passed (counted .before) in
-    ((counted .count-of .ensures .1, p .seqhe, p .next), (rw (counted .count-of .ensures .0) (p .rands-size), rw (counted .count-of .ensures .0) (p .buffer-size)))
+    let refusal = c .before .before in
+    let k = refusal .before .before in
+    c .refused .ensures (buffer k)
+    ∙ when-refused (auc k) (count k) (rands k) (buffer k) (lent k) (from k) (outcome k) _ _ (refusal .checked .given .1) (found k)
+    ∙ resync-is (auc k) (count k) (rands k) (buffer k) (rand k) (auts k)
 
 returns-2 : tie.Need-returns-2
 returns-2 c =
-    let answered = c .before .before in
-    let fourteenth = answered .before .before in
-    let counted = fourteenth .before .before in
-    let told = counted .before in
-    let args = entry (told .before .before) .args in
-    let auc = aucOf (args .auc) in
-    answered .answer-auts .ensures
-    ∙ ap (λ (n : ℕ). renewed auc n (args .rands .now) (args .batch .now) (fourteenth .before .sixteen .result) (fourteenth .fourteen .result)) (counted .count-of .ensures .0)
-    ∙ ap₂ (λ (x y : Octets). renewed auc (countOf (args .count)) (args .rands .now) (args .batch .now) x y) (fourteenth .before .sixteen .ensures) (fourteenth .fourteen .ensures)
-    ∙ resync-sent auc (args .count) (args .rands .now) (args .batch .now) _ (args .rand .now) (args .auts .now) (checked (told .before .before)) (told .enum-told .given .1)
+    let resumed = c .before .before in
+    let last = resumed .before .before in
+    let n = counted last in
+    let m = n .before .checked2 .given .0 .0 in
+    let k = checked n in
+    resumed .resume .ensures
+    ∙ ap₂ (answer k m) (last .before .sixteen .ensures) (last .fourteen .ensures)
+    ∙ when-asked (auc k) (count k) (rands k) (buffer k) (lent k) (from k) (outcome k) _ _ (n .before .checked2 .given .1) (found k)
+    ∙ resync-is (auc k) (count k) (rands k) (buffer k) (rand k) (auts k)
 
 pub resynchronise-spec : {M : Type 1} → statement M
 resynchronise-spec =
     tie.close
     (tie.spec
-    (λ c κs. search needs) (λ c κs. search needs) (λ c. search needs) (λ c κs. search needs) returns count-of-requires
-    sixteen-requires fourteen-requires answer-auts-requires (λ c. search needs) returns-2)
+    (λ c κs. search needs) (λ c κs. search needs) (λ c. search needs) (λ c κs. search needs) (λ c. search needs)
+    sixteen-requires fourteen-requires resume-requires returns (λ c. search needs) returns-2)

@@ -1,0 +1,22 @@
+-- `put` fills one part. Assumes nothing.
+use mathlib.Core.Path.{refl}
+use native.Mathlib.Omega.{arith}
+use Rattle.octets.proofs.Filling.{put-part}
+use borrow.Author.Needs.{needs}
+use Rattle.batches.proofs.vectors.put.Statement.{statement}
+use Rattle.batches.proofs.vectors.put.Tie as tie
+
+abbrev entry : tie.After-copy → tie.Start
+entry c = c .before .before .before .before
+
+returns : tie.Need-returns
+returns c =
+    let copied = c .before .before in
+    let args = entry copied .args in
+    rw (copied .copy .ensures .1) (put-part (args .batch .now) (args .part .now) _ _ (args .at) _ refl (omega arith))
+
+pub put-spec : {M : Type 1} → statement M
+put-spec =
+    tie.close
+    (tie.spec
+    (λ c. search needs) (λ c. search needs) (λ c. search needs) (λ c κs. search needs) (λ c. search needs) returns)

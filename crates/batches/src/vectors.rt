@@ -1,0 +1,93 @@
+// One authentication vector: made of a RAND, and written into a batch.
+use functions::Challenge;
+ghost use Prim.Native.Nat.{_+_, _≤_};
+ghost use mathlib.Core.List.{_++_};
+ghost use mathlib.Core.Path.{_≡_};
+ghost use lib.ListN.{length, take};
+ghost use Rattle.octets.specs.Octets.{Octets};
+ghost use Rattle.aes_tables.specs.RoundTable.{IsRoundTable};
+ghost use Rattle.functions.specs.Challenge.{Prepared};
+ghost use Rattle.functions.specs.Sets.{sets};
+ghost use Rattle.aka.specs.Functions.{Keys as KeysOf};
+ghost use Rattle.aka.specs.Layout.{vectorSize, writeVector};
+ghost use Rattle.aka.specs.Auc.{makeAutn, makeVector};
+
+// AUTN, with the AK that conceals its SQN.
+fn autn(
+    table: &[u32; 256],
+    schedule: &[u32; 44],
+    c: Challenge,
+    ak: [u8; 6],
+    sqn: [u8; 6],
+    amf: [u8; 2],
+) -> [u8; 16]
+    requires { ⌜ IsRoundTable (now table) ⌝ }
+    ensures { λ r. ⌜
+        ((keys : KeysOf) (rand : Octets) → Prepared keys rand (now (schedule .entry)) c → ak ≡ sets .under keys .f5 rand
+        → r ≡ makeAutn (sets .under keys) sqn amf rand)
+        ⌝ }
+{
+    let mac = functions::f1(table, schedule, c, sqn, amf);
+    tokens::autn(sqn, ak, amf, mac)
+}
+
+// Puts `part` into a batch, from `at` on. What stands before stays.
+fn put(batch: &mut [u8], at: usize, part: &[u8])
+    requires { ⌜ at + length (now part) ≤ length (now batch) ⌝ }
+    ensures { λ _. ⌜
+        take (at + length (now (part .entry))) (now (batch .exit)) ≡ take at (now (batch .entry)) ++ now (part .entry)
+        ⌝ }
+{
+    bytes::copy(part, &mut batch[at..]);
+}
+
+// Puts the parts of a vector into a batch, from `at` on. What stands before stays.
+fn put_parts(
+    batch: &mut [u8],
+    at: usize,
+    rand: [u8; 16],
+    xres: [u8; 8],
+    ck: [u8; 16],
+    ik: [u8; 16],
+    autn: [u8; 16],
+)
+    requires { ⌜ at + vectorSize ≤ length (now batch) ⌝ }
+    ensures { λ _. ⌜
+        take (at + vectorSize) (now (batch .exit))
+        ≡ take at (now (batch .entry)) ++ writeVector (record { rand = rand; xres = xres; ck = ck; ik = ik; autn = autn })
+        ⌝ }
+{
+    put(batch, at, &rand);
+    put(batch, at + aka::XRES_AT, &xres);
+    put(batch, at + aka::CK_AT, &ck);
+    put(batch, at + aka::IK_AT, &ik);
+    put(batch, at + aka::AUTN_AT, &autn);
+}
+
+// Puts the vector of a RAND taken up into a batch, from `at` on. What stands before stays; nothing is said of what stands behind, where the
+// next vector goes.
+pub fn put_vector(
+    table: &[u32; 256],
+    schedule: &[u32; 44],
+    c: Challenge,
+    sqn: [u8; 6],
+    amf: [u8; 2],
+    rand: [u8; 16],
+    batch: &mut [u8],
+    at: usize,
+)
+    requires { ⌜ IsRoundTable (now table) × (at + vectorSize ≤ length (now batch)) ⌝ }
+    ensures { λ _. ⌜
+        ((keys : KeysOf) → Prepared keys rand (now (schedule .entry)) c
+        → take (at + vectorSize) (now (batch .exit))
+        ≡ take at (now (batch .entry)) ++ writeVector (makeVector (sets .under keys) sqn amf rand))
+        ⌝ }
+{
+    let both = functions::f2_f5(table, schedule, c);
+    let xres = both.res;
+    let ak = both.ak;
+    let ck = functions::f3(table, schedule, c);
+    let ik = functions::f4(table, schedule, c);
+    let autn = autn(table, schedule, c, ak, sqn, amf);
+    put_parts(batch, at, rand, xres, ck, ik, autn);
+}
