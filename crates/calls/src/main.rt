@@ -1,17 +1,22 @@
 // The public calls, one a line: a word, then fields with one space between. docs/CALLS.md has the words.
+mod auc_calls;
+mod call;
+mod text;
+mod usim_calls;
+mod vlr_calls;
 
 use vlr::Vlr;
-use vlr_calls::Kept;
+use vlr_calls::Answered;
 
 // The answer to a line, and the node for the next one.
-fn answer(node: Vlr, line: &[u8]) -> Kept {
-    let text = card_calls::answer(line);
+fn answer(node: Vlr, line: &[u8]) -> Answered {
+    let text = usim_calls::answer(line);
     if text.size != 0 {
-        return Kept { vlr: node, text };
+        return Answered { vlr: node, text };
     }
     let text = auc_calls::answer(line);
     if text.size != 0 {
-        return Kept { vlr: node, text };
+        return Answered { vlr: node, text };
     }
     vlr_calls::answer(node, line)
 }
@@ -24,9 +29,9 @@ struct Turn {
 
 // Puts the answer to a line into the output buffer.
 fn put_answer(node: Vlr, line: &[u8], out: &mut [u8], used: usize) -> Turn {
-    let kept = answer(node, line);
-    let vlr = kept.vlr;
-    let text = kept.text;
+    let answered = answer(node, line);
+    let vlr = answered.vlr;
+    let text = answered.text;
     let bytes = text.bytes;
     let n = console::put(out, used, console::front(&bytes, text.size));
     Turn {
@@ -55,7 +60,7 @@ fn answer_all(piece: &mut [u8], line: &mut [u8], out: &mut [u8]) {
 // A line is held up to one byte more than the longest that is answered, so that a longer one is seen to be longer.
 fn main() {
     let mut piece = io::large_buffer();
-    let mut line = [0u8; 4097];
+    let mut line = [0u8; call::LONGEST + 1];
     let mut out = io::large_buffer();
     answer_all(&mut piece, &mut line, &mut out);
 }

@@ -1,4 +1,5 @@
-mod Filling
-mod Card
-mod Centre
-mod Place
+mod Sizes
+mod NewImages
+mod UsimAnswers
+mod AucAnswers
+mod VectorPlaces

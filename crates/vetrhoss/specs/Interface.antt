@@ -1,5 +1,6 @@
--- The C interface: what each call returns, and what the octets lent to it hold at the end, for octets of any length and contents. A refusal
--- leaves them as they were. The numbers returned are those of `interface_parts`, Results. Assumes nothing: these are definitions.
+-- The C interface: what each call returns, and what the octets lent to it hold at the end, for octets of any length and contents. The numbers
+-- returned are those of Results. A refusal leaves the octets as they were. An image is read first: what its reading refuses is the call's
+-- answer, before every other refusal. Assumes nothing: these are definitions.
 use Prim.Native.Nat.{ℕ, _*_}
 use mathlib.Core.Bool.{Bool, _&&_, not, cond}
 use lib.Dec.{eqb}
@@ -8,77 +9,137 @@ use Rattle.octets.specs.Octets.{Octets}
 use Rattle.aes.specs.Cipher.{aes}
 use Rattle.milenage.specs.Opc.{opc}
 use Rattle.functions.specs.Sets.{sets}
-use Rattle.aka.specs.Layout.{keySize, amfSize, vectorSize, isPlace}
+use Rattle.aka.specs.Layout.{keySize, amfSize, resSize, ckSize, ikSize, autsSize, vectorSize, isPlace}
 use Rattle.aka.specs.Functions.{Keys}
-use Rattle.aka.specs.Usim.{Usim, newUsim, challenge}
-use Rattle.aka.specs.Auc.{Auc, AucAnswer, newAuc, order, resync}
+use Rattle.aka.specs.Usim as card
+use Rattle.aka.specs.Auc as centre
 use Rattle.aka.specs.Sequence.{width}
 use Rattle.usim_record.specs.Views.{sqnDue}
 use Rattle.usim_image.specs.Image as usim
 use Rattle.auc_image.specs.Image as auc
-use Rattle.interface_parts.specs.Results.{resultOf, unreadResult}
-use Rattle.card_answers.specs.Answers.{Challenged, isLent, untouched, answered}
-use Rattle.centre_answers.specs.Answers.{Batched, settled}
+use Rattle.vetrhoss.specs.Results.{both, verdictResult, outcomeResult}
 
 abbrev has : (size : ℕ) → Octets → Bool
 has size x = eqb (length x) size
 
--- ---- OPc and new images: what is returned, and what the one buffer holds at the end
-
-pub record Filled : Type 0 where
+-- what a call returns, and what the octets that it was lent to write to hold at its end
+pub record Returned (Held : Type 0) : Type 0 where
   pub result : ℕ
-  pub octets : Octets
+  pub octets : Held
 
--- as the code answers
-abbrev pub filledOf : (result : ℕ) (octets : Octets) → Filled
-filledOf result octets = record { result = result; octets = octets }
+abbrev pub done : {Held : Type 0} → Held → Returned Held
+done octets = record { result = 0; octets = octets }
+
+abbrev pub refused : {Held : Type 0} → (number : ℕ) → Held → Returned Held
+refused number octets = record { result = number; octets = octets }
+
+-- ---- OPc and new images: one buffer
+
+-- K, and OP or OPc
+unfoldable pub areKeys : (k op : Octets) → Bool
+areKeys k op = has keySize k && has keySize op
 
 -- OPc of K and OP
-unfoldable pub opcCall : (k op buffer : Octets) → Filled
-opcCall k op buffer = cond (not (has keySize k && has keySize op && has keySize buffer)) (filledOf 3 buffer) (filledOf 0 (opc (aes k) op))
+unfoldable pub opcCall : (k op buffer : Octets) → Returned Octets
+opcCall k op buffer =
+    cond (not (areKeys k op && has keySize buffer)) (refused 3 buffer)
+    (done (opc (aes k) op))
 
 -- a new card
-unfoldable pub newUsimCall : (set : ℕ) (k opc buffer : Octets) → Filled
+unfoldable pub newUsimCall : (set : ℕ) (k opc buffer : Octets) → Returned Octets
 newUsimCall set k opc buffer =
-    cond (not (sets .known set)) (filledOf 1 buffer)
-    (cond (not (has keySize k && has keySize opc && has (usim.imageSize width) buffer)) (filledOf 3 buffer)
-    (filledOf 0 (usim.image width (newUsim width (record { set = set; k = k; opc = opc })))))
+    cond (not (sets .known set)) (refused 1 buffer)
+    (cond (not (areKeys k opc && has (usim.imageSize width) buffer)) (refused 3 buffer)
+    (done (usim.image width (card.newUsim width (record { set = set; k = k; opc = opc })))))
 
 -- a new centre
-unfoldable pub newAucCall : (set : ℕ) (k opc amf buffer : Octets) → Filled
+unfoldable pub newAucCall : (set : ℕ) (k opc amf buffer : Octets) → Returned Octets
 newAucCall set k opc amf buffer =
-    cond (not (sets .known set)) (filledOf 1 buffer)
-    (cond (not (has keySize k && has keySize opc && has amfSize amf && has auc.imageSize buffer)) (filledOf 3 buffer)
-    (filledOf 0 (auc.image width (newAuc (record { set = set; k = k; opc = opc }) amf))))
+    cond (not (sets .known set)) (refused 1 buffer)
+    (cond (not (areKeys k opc && has amfSize amf && has auc.imageSize buffer)) (refused 3 buffer)
+    (done (auc.image width (centre.newAuc (record { set = set; k = k; opc = opc }) amf))))
 
 -- ---- the card
 
--- a challenge, with the buffers lent for RES, CK, IK and AUTS
-unfoldable pub challengeCall : (image rand autn res ck ik auts : Octets) → Challenged
-challengeCall image rand autn res ck ik auts =
-    let held = usim.readAnswer (usim.format width sets) image in
-    let card = held .contents in
-    let answer = challenge width sets card rand autn in
-    cond (not (eqb (held .refusal) 0)) (untouched (held .refusal) image res ck ik auts)
-    (cond (not (isLent res ck ik auts)) (untouched 3 image res ck ik auts)
-    (answered image res ck ik auts answer (sqnDue (answer .verdict) card rand autn)))
+pub record UsimOctets : Type 0 where
+  pub image : Octets
+  pub res : Octets
+  pub ck : Octets
+  pub ik : Octets
+  pub auts : Octets
+
+abbrev pub answerSized : (res ck ik auts : Octets) → Bool
+answerSized res ck ik auts = has resSize res && has ckSize ck && has ikSize ik && has autsSize auts
+
+-- the image becomes that of the next record with an acceptance
+abbrev pub usimImageAfter : card.Verdict → (image next : Octets) → Octets
+usimImageAfter card.accepted image next = next
+usimImageAfter card.macFailure image next = image
+usimImageAfter card.syncFailure image next = image
+usimImageAfter (card.refused number) image next = image
+
+-- a buffer gets its part of the answer unless that is a refusal
+abbrev pub bufferAfter : card.Verdict → (buffer part : Octets) → Octets
+bufferAfter card.accepted buffer part = part
+bufferAfter card.macFailure buffer part = part
+bufferAfter card.syncFailure buffer part = part
+bufferAfter (card.refused number) buffer part = buffer
+
+-- an answer, with the SQN that it accepts
+abbrev pub usimReturns : card.UsimAnswer → (sqn : ℕ) → UsimOctets → Returned UsimOctets
+usimReturns a sqn lent = record {
+  result = verdictResult (a .verdict) sqn;
+  octets = record {
+    image = usimImageAfter (a .verdict) (lent .image) (usim.image width (a .usim));
+    res = bufferAfter (a .verdict) (lent .res) (a .res);
+    ck = bufferAfter (a .verdict) (lent .ck) (a .ck);
+    ik = bufferAfter (a .verdict) (lent .ik) (a .ik);
+    auts = bufferAfter (a .verdict) (lent .auts) (a .auts);
+  };
+}
+
+unfoldable pub challengeCall : (lent : UsimOctets) (rand autn : Octets) → Returned UsimOctets
+challengeCall lent rand autn =
+    let read = usim.readAnswer width sets (lent .image) in
+    let answer = card.challenge width sets (read .usim) rand autn in
+    cond (not (eqb (read .refusal) 0)) (refused (read .refusal) lent)
+    (cond (not (answerSized (lent .res) (lent .ck) (lent .ik) (lent .auts))) (refused 3 lent)
+    (usimReturns answer (sqnDue (answer .verdict) (read .usim) rand autn) lent))
 
 -- ---- the centre
 
+pub record AucOctets : Type 0 where
+  pub image : Octets
+  pub batch : Octets
+
+-- the image becomes that of the next record where a batch is given
+abbrev pub aucImageAfter : centre.Outcome → (image next : Octets) → Octets
+aucImageAfter centre.given image next = next
+aucImageAfter centre.kept image next = next
+aucImageAfter centre.reset image next = next
+aucImageAfter (centre.refused number) image next = image
+aucImageAfter (centre.repeated i j) image next = image
+
+abbrev pub aucReturns : centre.AucAnswer → (image : Octets) → Returned AucOctets
+aucReturns a image = record {
+  result = outcomeResult (a .outcome);
+  octets = record { image = aucImageAfter (a .outcome) image (auc.image width (a .auc)); batch = a .batch };
+}
+
 -- the record in an image is asked
-unfoldable pub onImage : (image : Octets) (count : ℕ) (batch : Octets) → (Auc → AucAnswer) → Batched
-onImage image count batch ask =
-    let held = auc.readAnswer (auc.format width sets) image in
-    cond (not (eqb (held .refusal) 0)) (record { result = unreadResult (held .refusal) count; image = image; batch = batch })
-    (settled image (ask (held .contents)))
+unfoldable pub onImage : (lent : AucOctets) → (centre.Auc → centre.AucAnswer) → Returned AucOctets
+onImage lent ask =
+    let read = auc.readAnswer width sets (lent .image) in
+    cond (not (eqb (read .refusal) 0)) (refused (read .refusal) lent)
+    (aucReturns (ask (read .auc)) (lent .image))
 
-abbrev pub orderCall : (image : Octets) (count : ℕ) (rands batch : Octets) → Batched
-orderCall image count rands batch = onImage image count batch (λ held. order width sets held count rands batch)
+abbrev pub orderCall : (lent : AucOctets) (count : ℕ) (rands : Octets) → Returned AucOctets
+orderCall lent count rands = onImage lent (λ auc. centre.order width sets auc count rands (lent .batch))
 
-abbrev pub resyncCall : (image : Octets) (count : ℕ) (rand auts rands batch : Octets) → Batched
-resyncCall image count rand auts rands batch = onImage image count batch (λ held. resync width sets held count rands batch rand auts)
+abbrev pub resyncCall : (lent : AucOctets) (count : ℕ) (rand auts rands : Octets) → Returned AucOctets
+resyncCall lent count rand auts rands = onImage lent (λ auc. centre.resync width sets auc count rands (lent .batch) rand auts)
 
 -- ---- where the vector at place k begins in a batch
 
 unfoldable pub vectorAtCall : (batch : Octets) (k : ℕ) → ℕ
-vectorAtCall batch k = cond (not (isPlace batch k)) 3 (resultOf 0 (vectorSize * k))
+vectorAtCall batch k = cond (not (isPlace batch k)) 3 (both 0 (vectorSize * k))

@@ -1,62 +1,78 @@
 -- `vetrhoss_new_auc` is `newAucCall`. Assumes nothing.
-use mathlib.Core.Bool.{true, false}
+use mathlib.Core.Bool.{true}
 use mathlib.Core.Path.{_≡_, refl, sym, ap, ap₂, _∙_}
 use borrow.Author.Tests.{eq-eqb, ne-eqb, not-true, not-false}
 use Rattle.octets.proofs.Strings.{listed-all}
 use Rattle.functions.specs.Sets.{sets}
 use Rattle.functions.proofs.Protocol.{auc-holds}
+use Rattle.aka.specs.Layout.{amfSize}
 use Rattle.aka.specs.Auc.{Auc, newAuc}
 use Rattle.aka.specs.Sequence.{width}
-use Rattle.auc_image.specs.Image.{writeAnswer, format}
-use Rattle.vetrhoss.specs.Interface.{newAucCall}
-use Rattle.vetrhoss.proofs.Filling.{toFilled, auc-written}
+use Rattle.auc_image.specs.Image.{writeAnswer}
+use Rattle.vetrhoss.specs.Interface.{areKeys, newAucCall}
+use Rattle.vetrhoss.proofs.NewImages.{returnedOf, auc-written}
 use borrow.Author.Needs.{needs}
 use Rattle.vetrhoss.proofs.vetrhoss_new_auc.Statement.{statement}
 use Rattle.vetrhoss.proofs.vetrhoss_new_auc.Tie as tie
 
-known : (c : tie.Else1) → sets .known (c .before .before .before .before .before .before .args .set) ≡ true
+-- the stations, from the last to the first
+abbrev written : tie.After-slice-known2 → tie.After-write
+written c = c .before .before
+
+abbrev made : tie.After-write → tie.After-new
+made c = c .before .before
+
+abbrev keyed : tie.After-new → tie.After-keys-from
+keyed c = c .before .before .before
+
+abbrev sized : tie.Else3 → tie.Else2
+sized c = c .before
+
+abbrev named : tie.Else2 → tie.Else1
+named c = c .before .before
+
+abbrev entry : tie.Else1 → tie.Start
+entry c = c .before .before .before .before .before .before
+
+known : (c : tie.Else1) → sets .known (entry c .args .set) ≡ true
 known c = sym (c .before .is-known .ensures) ∙ not-false _ (c .if1 .left)
+
+keys : (c : tie.Else2) → areKeys (entry (named c) .args .k .now) (entry (named c) .args .opc .now) ≡ true
+keys c = sym (c .before .are-keys .ensures) ∙ not-false _ (c .if2 .left)
 
 returns : tie.Need-returns
 unfolding newAucCall
-returns c =
-    let unknown : c .before .is-known .result ≡ false = not-true _ (c .if1 .taken) in
-    rw (← c .before .is-known .ensures, unknown) refl
+returns c = rw (sym (c .before .is-known .ensures) ∙ not-true _ (c .if1 .taken)) refl
 
 returns-2 : tie.Need-returns-2
 unfolding newAucCall
-returns-2 c = rw (known (c .before), ne-eqb _ 16 (c .if2 .taken)) refl
+returns-2 c = rw (known (c .before .before), sym (c .before .are-keys .ensures) ∙ not-true _ (c .if2 .taken)) refl
 
 returns-3 : tie.Need-returns-3
 unfolding newAucCall
-returns-3 c = rw (known (c .before .before), eq-eqb _ 16 (c .before .if2 .left), ne-eqb _ 16 (c .if3 .taken)) refl
+returns-3 c = rw (known (named (c .before)), keys (c .before), ne-eqb _ amfSize (c .if3 .taken)) refl
 
 returns-4 : tie.Need-returns-4
 unfolding newAucCall
 returns-4 c =
-    rw (known (c .before .before .before), eq-eqb _ 16 (c .before .before .if2 .left), eq-eqb _ 16 (c .before .if3 .left), ne-eqb _ 2 (c .if4 .taken)) refl
-
-returns-5 : tie.Need-returns-5
-unfolding newAucCall
-returns-5 c =
-    let written = c .before .before in
-    let made = written .before .before in
-    let held = made .before .before .before in
-    let sized = held .before in
-    let args = sized .before .before .before .before .before .before .before .before .before .args in
-    let named = known (sized .before .before .before) in
-    let two = sized .if4 .left in
+    let new = made (written c) in
+    let from = keyed new in
+    let amf = from .before in
+    let set = named (sized amf) in
+    let args = entry set .args in
+    let two = amf .if3 .left in
     let centre : Auc = newAuc (record { set = args .set; k = args .k .now; opc = args .opc .now }) (args .amf .now) in
-    rw (named, eq-eqb _ 16 (sized .before .before .if2 .left), eq-eqb _ 16 (sized .before .if3 .left), eq-eqb _ 2 two)
-    (ap toFilled
-    (written .write .ensures
-    ∙ ap (λ (a : Auc). writeAnswer (format width sets) a (args .image .now)) (made .new .ensures ∙ ap₂ newAuc (held .keys-from .ensures) (listed-all (args .amf .now) 2 two)))
-    ∙ auc-written centre (args .image .now) (auc-holds .new-valid _ _ named))
+    rw (known set, keys (sized amf), eq-eqb _ amfSize two)
+    (ap returnedOf
+    (written c .write .ensures
+    ∙ ap (λ (a : Auc). writeAnswer width sets a (args .image .now))
+    (new .new .ensures ∙ ap₂ newAuc (from .keys-from .ensures) (listed-all (args .amf .now) amfSize two)))
+    ∙ auc-written centre (args .image .now) (auc-holds .new-valid _ _ (known set)))
 
 pub vetrhoss-new-auc-spec : {M : Type 1} → statement M
 vetrhoss-new-auc-spec =
     tie.close
     (tie.spec
-    (λ c κs. search needs) returns returns-2 returns-3 returns-4 (λ c κs. search needs)
+    (λ c κs. search needs) returns (λ c κs. search needs) returns-2 returns-3 (λ c κs. keys (sized c))
     (λ c. search needs) (λ c. search needs) (λ c κs. search needs) (λ c κs. search needs) (λ c. search needs) (λ c. search needs)
-    returns-5)
+    returns-4)

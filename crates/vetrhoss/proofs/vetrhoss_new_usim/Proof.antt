@@ -1,55 +1,66 @@
 -- `vetrhoss_new_usim` is `newUsimCall`. Assumes nothing.
-use mathlib.Core.Bool.{true, false}
+use mathlib.Core.Bool.{true}
 use mathlib.Core.Path.{_≡_, refl, sym, ap, _∙_}
-use borrow.Author.Tests.{eq-eqb, ne-eqb, not-true, not-false}
+use borrow.Author.Tests.{not-true, not-false}
 use Rattle.functions.specs.Sets.{sets}
 use Rattle.functions.proofs.Protocol.{usim-holds}
-use Rattle.aka.specs.Functions.{Keys}
 use Rattle.aka.specs.Usim.{Usim, newUsim}
 use Rattle.aka.specs.Sequence.{width}
-use Rattle.usim_image.specs.Image.{writeAnswer, format}
-use Rattle.vetrhoss.specs.Interface.{newUsimCall}
-use Rattle.vetrhoss.proofs.Filling.{toFilled, usim-written}
+use Rattle.usim_image.specs.Image.{writeAnswer}
+use Rattle.vetrhoss.specs.Interface.{areKeys, newUsimCall}
+use Rattle.vetrhoss.proofs.NewImages.{returnedOf, usim-written}
 use borrow.Author.Needs.{needs}
 use Rattle.vetrhoss.proofs.vetrhoss_new_usim.Statement.{statement}
 use Rattle.vetrhoss.proofs.vetrhoss_new_usim.Tie as tie
 
-known : (c : tie.Else1) → sets .known (c .before .before .before .before .before .args .set) ≡ true
+-- the stations, from the last to the first
+abbrev written : tie.After-slice-known2 → tie.After-write
+written c = c .before .before
+
+abbrev made : tie.After-write → tie.After-new
+made c = c .before .before
+
+abbrev sized : tie.After-new → tie.Else2
+sized c = c .before .before
+
+abbrev named : tie.Else2 → tie.Else1
+named c = c .before .before
+
+abbrev entry : tie.Else1 → tie.Start
+entry c = c .before .before .before .before .before
+
+known : (c : tie.Else1) → sets .known (entry c .args .set) ≡ true
 known c = sym (c .before .is-known .ensures) ∙ not-false _ (c .if1 .left)
+
+keys : (c : tie.Else2) → areKeys (entry (named c) .args .k .now) (entry (named c) .args .opc .now) ≡ true
+keys c = sym (c .before .are-keys .ensures) ∙ not-false _ (c .if2 .left)
 
 returns : tie.Need-returns
 unfolding newUsimCall
-returns c =
-    let unknown : c .before .is-known .result ≡ false = not-true _ (c .if1 .taken) in
-    rw (← c .before .is-known .ensures, unknown) refl
+returns c = rw (sym (c .before .is-known .ensures) ∙ not-true _ (c .if1 .taken)) refl
 
 returns-2 : tie.Need-returns-2
 unfolding newUsimCall
-returns-2 c = rw (known (c .before), ne-eqb _ 16 (c .if2 .taken)) refl
+returns-2 c = rw (known (c .before .before), sym (c .before .are-keys .ensures) ∙ not-true _ (c .if2 .taken)) refl
 
 returns-3 : tie.Need-returns-3
 unfolding newUsimCall
-returns-3 c = rw (known (c .before .before), eq-eqb _ 16 (c .before .if2 .left), ne-eqb _ 16 (c .if3 .taken)) refl
-
-returns-4 : tie.Need-returns-4
-unfolding newUsimCall
-returns-4 c =
-    let written = c .before .before in
-    let made = written .before .before in
-    let sized = made .before .before in
-    let args = sized .before .before .before .before .before .before .before .args in
-    let named = known (sized .before .before) in
+returns-3 c =
+    let new = made (written c) in
+    let sizes = sized new in
+    let set = named sizes in
+    let args = entry set .args in
     let card : Usim = newUsim width (record { set = args .set; k = args .k .now; opc = args .opc .now }) in
-    rw (named, eq-eqb _ 16 (sized .before .if2 .left), eq-eqb _ 16 (sized .if3 .left))
-    (ap toFilled
-    (written .write .ensures
-    ∙ ap (λ (u : Usim). writeAnswer (format width sets) u (args .image .now))
-    (made .new .ensures ∙ ap (newUsim width) (made .before .keys-from .ensures)))
-    ∙ usim-written card (args .image .now) (usim-holds .new-valid _ named))
+    rw (known set, keys sizes)
+    (ap returnedOf
+    (written c .write .ensures
+    ∙ ap (λ (u : Usim). writeAnswer width sets u (args .image .now))
+    (new .new .ensures ∙ ap (newUsim width) (new .before .keys-from .ensures)))
+    ∙ usim-written card (args .image .now) (usim-holds .new-valid _ (known set)))
 
 pub vetrhoss-new-usim-spec : {M : Type 1} → statement M
 vetrhoss-new-usim-spec =
     tie.close
     (tie.spec
-    (λ c κs. search needs) returns returns-2 returns-3 (λ c κs. search needs) (λ c κs. search needs) (λ c κs. search needs)
-    (λ c. search needs) (λ c. search needs) returns-4)
+    (λ c κs. search needs) returns (λ c κs. search needs) returns-2 (λ c κs. keys c) (λ c κs. search needs) (λ c κs. search needs)
+    (λ c. search needs) (λ c. search needs) returns-3)

@@ -1,0 +1,10 @@
+-- How much a line of `calls` may hold. Assumes nothing: these are definitions.
+use Prim.Native.Nat.{ℕ}
+
+-- the fields of a line
+abbrev pub mostFields : ℕ
+mostFields = 40
+
+-- the octets of a buffer that is lent for an image or a batch
+abbrev pub mostLent : ℕ
+mostLent = 512

@@ -1,0 +1,82 @@
+// Putting the answer to a call.
+use crate::call::LONGEST;
+use crate::call::MOST_LENT;
+use functions::Keys;
+
+// The bytes of an answer without its newline: none, where the line is not answered. The longest is that of a node, and has room.
+pub struct Text {
+    pub bytes: [u8; LONGEST],
+    pub size: usize,
+}
+
+pub fn no_text() -> Text {
+    Text {
+        bytes: [0; LONGEST],
+        size: 0,
+    }
+}
+
+fn put(t: Text, part: &[u8]) -> Text {
+    let mut bytes = t.bytes;
+    let size = console::put(&mut bytes, t.size, part);
+    Text { bytes, size }
+}
+
+pub fn word(word: &[u8]) -> Text {
+    put(no_text(), word)
+}
+
+// Puts a space and a number.
+pub fn put_number(t: Text, n: u64) -> Text {
+    let mut digits = [0u8; 20];
+    let k = io::decimal(n, &mut digits);
+    put(put(t, b" "), &digits[..k])
+}
+
+pub fn numbered(name: &[u8], n: u64) -> Text {
+    put_number(word(name), n)
+}
+
+pub fn refused(number: u8) -> Text {
+    numbered(b"refused", number as u64)
+}
+
+// Writes octets in hex behind the first byte of a buffer that has room for them; `-` stands for none. Returns where they end.
+fn write_hex(octets: &[u8], out: &mut [u8]) -> usize {
+    if out.len() / 2 <= octets.len() {
+        return 0;
+    }
+    if octets.len() == 0 {
+        out[1] = b'-';
+        return 2;
+    }
+    let end = 2 * octets.len() + 1;
+    hex::write(octets, &mut out[1..end]);
+    end
+}
+
+// Puts a space and octets.
+pub fn put_octets(t: Text, octets: &[u8]) -> Text {
+    let mut text = [b' '; LONGEST];
+    let end = write_hex(octets, &mut text);
+    put(t, console::front(&text, end))
+}
+
+pub fn put_pair(t: Text, a: [u8; 16], b: [u8; 16]) -> Text {
+    put_octets(put_octets(t, &a), &b)
+}
+
+// Begins with a word and the keys of a record.
+pub fn put_keys(word: &[u8], keys: Keys) -> Text {
+    let k = keys.k;
+    let opc = keys.opc;
+    put_pair(numbered(word, keys.set as u64), k, opc)
+}
+
+// The image that was written to the front of a buffer, or the refusal.
+pub fn image(refusal: u8, buffer: [u8; MOST_LENT], size: usize) -> Text {
+    if refusal != 0 {
+        return refused(refusal);
+    }
+    put_octets(word(b"image"), console::front(&buffer, size))
+}

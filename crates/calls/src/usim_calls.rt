@@ -1,0 +1,112 @@
+// The calls of the card.
+use crate::call;
+use crate::call::Call;
+use crate::call::LONGEST;
+use crate::call::MOST_LENT;
+use crate::text;
+use crate::text::Text;
+use usim::Usim;
+use usim::Verdict;
+ghost use Prim.Native.Nat.{_≤_};
+ghost use Rattle.calls.specs.Limits.{mostLent};
+
+// The answer to a line; no text where it is no call of the card.
+pub fn answer(line: &[u8]) -> Text {
+    let mut store = [0u8; LONGEST];
+    let c = call::read(
+        b"card-new:bKK card-write:bKKlnnnnnnnnnnnnnnnnnnnnnnnnnnnnnnnn card-read:O challenge:OOO",
+        line,
+        &mut store,
+    );
+    make(c, &store)
+}
+
+// The words by their places in the list above.
+fn make(c: Call, store: &[u8]) -> Text {
+    let word = c.word;
+    match word {
+        0 => text::no_text(),
+        1 => write(usim::new(call::keys(c, store)), usim_image::SIZE),
+        2 => write(record(c, store), call::lent_size(c, 3)),
+        _ => with_image(c, store),
+    }
+}
+
+// `card-write SET K OPC LENGTH P0 P1 .. P31`. LENGTH is that of the buffer lent for the image.
+fn record(c: Call, store: &[u8]) -> Usim {
+    Usim {
+        keys: call::keys(c, store),
+        places: places(c),
+    }
+}
+
+fn places(c: Call) -> [u64; aka::PLACES] {
+    let mut places = [0u64; aka::PLACES];
+    let mut i = 0;
+    while i < aka::PLACES {
+        places[i] = call::number(c, i + 4);
+        i += 1;
+    }
+    places
+}
+
+// Lends the first `size` bytes for the image.
+fn write(card: Usim, size: usize) -> Text
+    requires { ⌜ size ≤ mostLent ⌝ }
+{
+    let mut buffer = [0u8; MOST_LENT];
+    let refusal = usim_image::write(card, &mut buffer[0..size]);
+    text::image(refusal, buffer, size)
+}
+
+// The calls whose first field is an image: `card-read IMAGE` and `challenge IMAGE RAND AUTN`.
+fn with_image(c: Call, store: &[u8]) -> Text {
+    let read = usim_image::read(call::part(c, 0, store));
+    if read.refusal != 0 {
+        return text::refused(read.refusal);
+    }
+    let card = read.usim;
+    if c.word == 3 {
+        return put_card(card);
+    }
+    put_answer(usim::challenge(card, call::part(c, 1, store), call::part(c, 2, store)))
+}
+
+fn put_card(card: Usim) -> Text {
+    let keys = card.keys;
+    let places = card.places;
+    put_places(text::put_keys(b"card", keys), places)
+}
+
+fn put_places(t: Text, places: [u64; aka::PLACES]) -> Text {
+    let mut line = t;
+    let mut i = 0;
+    while i < aka::PLACES {
+        let next = text::put_number(line, places[i]);
+        line = next;
+        i += 1;
+    }
+    line
+}
+
+fn put_answer(a: usim::Answer) -> Text {
+    let verdict = a.verdict;
+    let auts = a.auts;
+    match verdict {
+        Verdict::Accepted(sqn) => put_accepted(sqn, a),
+        Verdict::Sync => text::put_octets(text::word(b"sync"), &auts),
+        Verdict::Mac => text::word(b"mac"),
+        Verdict::Refused(number) => text::refused(number),
+    }
+}
+
+fn put_accepted(sqn: u64, a: usim::Answer) -> Text {
+    let res = a.res;
+    let ck = a.ck;
+    let ik = a.ik;
+    let next = a.usim;
+    let mut image = [0u8; usim_image::SIZE];
+    usim_image::write(next, &mut image);
+    let t = text::put_octets(text::numbered(b"accepted", sqn), &res);
+    text::put_octets(text::put_pair(t, ck, ik), &image)
+}

@@ -1,0 +1,171 @@
+// The calls of the node.
+use crate::call;
+use crate::call::Call;
+use crate::call::LONGEST;
+use crate::text;
+use crate::text::Text;
+use vlr::Outcome;
+use vlr::Reply;
+use vlr::State;
+use vlr::Vlr;
+
+// The node after a line, and the answer.
+pub struct Answered {
+    pub vlr: Vlr,
+    pub text: Text,
+}
+
+// The answer to a line: a bad line where it is no call of the node.
+pub fn answer(vlr: Vlr, line: &[u8]) -> Answered {
+    let mut store = [0u8; LONGEST];
+    let c = call::read(
+        b"vlr-new: vlr-record:sbVP store:nO renew:nO answer:O sync:O ask: again: reject: timeout: abandon:",
+        line,
+        &mut store,
+    );
+    make(vlr, c, &store)
+}
+
+fn make(vlr: Vlr, c: Call, store: &[u8]) -> Answered {
+    if c.word == 0 {
+        return Answered {
+            vlr,
+            text: text::word(b"bad line"),
+        };
+    }
+    put_reply(reply(vlr, c, store))
+}
+
+// The words by their places in the list above.
+fn reply(vlr: Vlr, c: Call, store: &[u8]) -> Reply {
+    let word = c.word;
+    match word {
+        1 => made(vlr::new()),
+        2 => made(record(c, store)),
+        3 | 4 | 5 | 6 => with_octets(vlr, c, store),
+        _ => bare(vlr, word),
+    }
+}
+
+// The calls with octets: `store COUNT BATCH`, `renew COUNT BATCH`, `answer RES` and `sync AUTS`.
+fn with_octets(vlr: Vlr, c: Call, store: &[u8]) -> Reply {
+    let word = c.word;
+    let first = call::part(c, 0, store);
+    let second = call::part(c, 1, store);
+    match word {
+        3 => vlr::store(vlr, call::number(c, 0), second),
+        4 => vlr::renew(vlr, call::number(c, 0), second),
+        5 => vlr::answer(vlr, first),
+        _ => vlr::sync(vlr, first),
+    }
+}
+
+// The words without fields.
+fn bare(vlr: Vlr, word: u64) -> Reply {
+    match word {
+        7 => vlr::ask(vlr),
+        8 => vlr::again(vlr),
+        9 => vlr::reject(vlr),
+        10 => vlr::timeout(vlr),
+        _ => vlr::abandon(vlr),
+    }
+}
+
+// `vlr-record STATE HELD OUT PLACES`.
+fn record(c: Call, store: &[u8]) -> Vlr {
+    let mut out = [0u8; aka::VECTOR_SIZE];
+    let mut places = [0u8; call::PLACES_SIZE];
+    call::copy_front(call::part(c, 2, store), &mut out);
+    call::copy_front(call::part(c, 3, store), &mut places);
+    Vlr {
+        state: state_of(call::number(c, 0)),
+        held: call::octet(c, 1),
+        places,
+        out,
+    }
+}
+
+fn state_of(number: u64) -> State {
+    match number {
+        0 => State::Idle,
+        1 => State::Asked,
+        _ => State::Resyncing,
+    }
+}
+
+// A record that was made, as an answer that gives nothing.
+fn made(vlr: Vlr) -> Reply {
+    Reply {
+        outcome: Outcome::Done,
+        vlr,
+        rand: [0; 16],
+        autn: [0; 16],
+        auts: [0; 14],
+        ck: [0; 16],
+        ik: [0; 16],
+    }
+}
+
+// The whole answer, and the record that is kept.
+fn put_reply(reply: Reply) -> Answered {
+    let outcome = reply.outcome;
+    let vlr = reply.vlr;
+    let t = put_octets(put_outcome(outcome), reply);
+    Answered {
+        vlr,
+        text: put_vlr(t, vlr),
+    }
+}
+
+fn put_outcome(outcome: Outcome) -> Text {
+    match outcome {
+        Outcome::Done => text::word(b"done"),
+        Outcome::Passed => text::word(b"passed"),
+        Outcome::Cause(number) => text::numbered(b"cause", number as u64),
+        Outcome::Refused(number) => text::refused(number),
+    }
+}
+
+fn put_octets(t: Text, reply: Reply) -> Text {
+    let rand = reply.rand;
+    let autn = reply.autn;
+    let auts = reply.auts;
+    let ck = reply.ck;
+    let ik = reply.ik;
+    let t = text::put_octets(text::put_pair(t, rand, autn), &auts);
+    text::put_pair(t, ck, ik)
+}
+
+fn put_vlr(t: Text, vlr: Vlr) -> Text {
+    let state = vlr.state;
+    let out = vlr.out;
+    let places = vlr.places;
+    let t = text::put_number(t, number_of(state));
+    let t = text::put_octets(text::put_number(t, vlr.held as u64), &out);
+    put_places(t, &places)
+}
+
+fn number_of(state: State) -> u64 {
+    match state {
+        State::Idle => 0,
+        State::Asked => 1,
+        State::Resyncing => 2,
+    }
+}
+
+// How many octets there are up to the last one that is not zero.
+fn size_of(places: &[u8]) -> usize {
+    let mut end = places.len();
+    while end > 0 {
+        if places[end - 1] != 0 {
+            return end;
+        }
+        end -= 1;
+    }
+    0
+}
+
+// The places without the zeros at their end.
+fn put_places(t: Text, places: &[u8]) -> Text {
+    text::put_octets(t, console::front(places, size_of(places)))
+}
