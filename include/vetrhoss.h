@@ -12,7 +12,10 @@
  *
  * Every function returns one number: VETRHOSS_NUMBER(result) says what happened, VETRHOSS_VALUE(result) goes with it and
  * is 0 where nothing else is said. On a refusal (1 to 9) every buffer, images among them, stays octet for octet as it was.
- * Where several refusals apply, the lowest number is given; the contents of an image of another size are not looked at.
+ *
+ * An image that is lent is read first, and what its reading refuses is the call's answer, before every other refusal: 3 for
+ * another size (the contents are then not looked at), else 1 for an unknown edition or function set. Of the refusals behind
+ * it the lowest number that applies is given.
  */
 #ifndef VETRHOSS_H
 #define VETRHOSS_H
@@ -103,7 +106,7 @@ uint64_t vetrhoss_new_auc(uint8_t set, const uint8_t *k, size_t k_size, const ui
  * res: 8, ck, ik: 16 each, auts: 14, all four written; what a verdict does not give is zeros.
  * Number 0: accepted; the value is the accepted SQN (48 bits); res, ck and ik are given.
  * Number 20: MAC failure; nothing is given. Number 21: synchronisation failure; auts is given.
- * Refusals: 3 an image of another size, whose contents are not looked at; else 1; else 3 any other buffer.
+ * Refusals: the image's, 3 or 1; then 3 any other buffer.
  */
 uint64_t vetrhoss_challenge(uint8_t *image, size_t image_size, const uint8_t *rand, size_t rand_size, const uint8_t *autn,
                             size_t autn_size, uint8_t *res, size_t res_size, uint8_t *ck, size_t ck_size, uint8_t *ik,
@@ -114,8 +117,7 @@ uint64_t vetrhoss_challenge(uint8_t *image, size_t image_size, const uint8_t *ra
  * image: the centre's 41 octets, read, and updated in place when the batch is given: store it before a vector is used.
  * count: 1 to 5 vectors, or 0 for 5; n is the number that results.
  * rands: 16 n octets, read: unpredictable, no two RANDs equal. batch: 72 n, written.
- * Refusals: 1, 2, 3, 4 (see VETRHOSS_FIRST and VETRHOSS_SECOND), 6. The contents of an image of another size are not
- * looked at: it gives 2 where the count is above 5, else 3.
+ * Refusals: the image's, 3 or 1, whatever the count is; then 2, 3, 4 (see VETRHOSS_FIRST and VETRHOSS_SECOND), 6.
  */
 uint64_t vetrhoss_order(uint8_t *image, size_t image_size, uint64_t count, const uint8_t *rands, size_t rands_size, uint8_t *batch,
                         size_t batch_size);

@@ -2,46 +2,43 @@
 
 use reference::vector::{Bytes, Vector};
 use reference::{auc_image, image};
-use vetrhoss::{Answer, Given, DONE};
+use vetrhoss::{AnswerBuffers, SeqHe, AUTS_SIZE, CK_SIZE, IK_SIZE, OPC_SIZE, RAND_SIZE};
+use vetrhoss::{RES_SIZE, VECTOR_SIZE};
 
 use crate::load::{Failure, Load};
 
-fn done(answer: Answer) -> u64 {
-    assert_eq!(answer.number, DONE);
-    answer.value
-}
+/// RES, CK and IK, one behind the other.
+const KEYS_SIZE: usize = RES_SIZE + CK_SIZE + IK_SIZE;
 
 pub fn order(image: &mut [u8], rands: &[u8], batch: &mut [u8]) {
-    let count = (rands.len() / 16) as u64;
-    done(vetrhoss::order(image, count, rands, batch));
+    let count = (rands.len() / RAND_SIZE) as u64;
+    vetrhoss::order(image, count, rands, batch).expect("a batch");
 }
 
 pub fn resynchronise(image: &mut [u8], failure: &Failure, rands: &[u8], batch: &mut [u8]) {
-    let count = (rands.len() / 16) as u64;
-    let failed: [&[u8]; 2] = [&failure.rand, &failure.auts];
-    let answer = vetrhoss::resynchronise(image, count, failed, rands, batch);
-    assert_eq!(done(answer), vetrhoss::RESET);
+    let count = (rands.len() / RAND_SIZE) as u64;
+    let failed = vetrhoss::Failure {
+        rand: &failure.rand,
+        auts: &failure.auts,
+    };
+    let did = vetrhoss::resynchronise(image, count, failed, rands, batch);
+    assert_eq!(did, Ok(SeqHe::Reset));
 }
 
 /// RES, CK and IK.
-pub fn challenge(image: &mut [u8], vector: &Vector) -> [u8; 40] {
-    let (mut keys, mut auts) = ([0; 40], [0; 14]);
-    let (res, both) = keys.split_at_mut(8);
-    let (ck, ik) = both.split_at_mut(16);
+pub fn challenge(image: &mut [u8], vector: &Vector) -> [u8; KEYS_SIZE] {
+    let (mut keys, mut auts) = ([0; KEYS_SIZE], [0; AUTS_SIZE]);
+    let (res, both) = keys.split_at_mut(RES_SIZE);
+    let (ck, ik) = both.split_at_mut(CK_SIZE);
     let auts = &mut auts;
-    let given = Given { res, ck, ik, auts };
-    done(vetrhoss::challenge(
-        image,
-        &vector.rand,
-        &vector.autn,
-        given,
-    ));
+    let answer = AnswerBuffers { res, ck, ik, auts };
+    vetrhoss::challenge(image, &vector.rand, &vector.autn, answer).expect("an acceptance");
     keys
 }
 
-pub fn opc(k: &[u8], op: &[u8]) -> [u8; 16] {
-    let mut opc = [0; 16];
-    done(vetrhoss::opc(k, op, &mut opc));
+pub fn opc(k: &[u8], op: &[u8]) -> [u8; OPC_SIZE] {
+    let mut opc = [0; OPC_SIZE];
+    vetrhoss::opc(k, op, &mut opc).expect("OPc");
     opc
 }
 
@@ -57,7 +54,7 @@ pub fn card(load: &Load) -> [u8; image::LENGTH] {
 pub fn vectors(load: &Load) -> Vec<Vector> {
     let mut image = centre(load);
     let vectors = load.rands.iter().map(|rand| {
-        let mut vector: Bytes = [0; 72];
+        let mut vector: Bytes = [0; VECTOR_SIZE];
         order(&mut image, rand, &mut vector);
         Vector::of(&vector)
     });

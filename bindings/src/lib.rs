@@ -1,45 +1,37 @@
 //! The proved card and authentication centre for Rust: one safe function for
-//! each function of `include/vetrhoss.h`, where sizes, numbers and values are
-//! explained.
+//! each function of `include/vetrhoss.h`, where sizes and numbers are explained.
 //!
 //! A slice is never null and is wholly its lender's, and no other slice of the
 //! call overlaps one that is lent to be written to. That is all that the header
 //! asks of a caller, so every call below is sound.
 
 mod c;
+mod error;
+mod header;
 
-/// What happened, and the value that goes with it.
-#[derive(Clone, Copy, Debug, PartialEq, Eq)]
-pub struct Answer {
-    pub number: u8,
-    pub value: u64,
-}
+pub use error::Error;
+pub use header::*;
 
-pub const DONE: u8 = 0;
-pub const MAC_FAILURE: u8 = 20;
-pub const SYNCH_FAILURE: u8 = 21;
-
-/// The values of a resynchronisation that is done.
-pub const KEPT: u64 = 0;
-pub const RESET: u64 = 1;
-
-pub const MILENAGE: u8 = 1;
-
-pub const USIM_IMAGE_SIZE: usize = 205;
-pub const AUC_IMAGE_SIZE: usize = 41;
-pub const VECTOR_SIZE: usize = 72;
-
-impl Answer {
-    fn of(result: u64) -> Answer {
-        Answer {
-            number: result as u8,
-            value: result >> 8,
-        }
+/// The value of a call that is done.
+fn value(result: u64) -> Result<u64, Error> {
+    let (number, value) = (result as u8, result >> 8);
+    match number {
+        DONE => Ok(value),
+        _ => Err(Error::of(number, value)),
     }
 }
 
-pub fn opc(k: &[u8], op: &[u8], opc: &mut [u8]) -> Answer {
-    Answer::of(unsafe {
+/// A call that is done and has no value.
+fn no_value(result: u64) -> Result<(), Error> {
+    match value(result)? {
+        0 => Ok(()),
+        value => panic!("the header names no value here, and the library gives {value}"),
+    }
+}
+
+/// OPc of a subscriber, from K and OP.
+pub fn opc(k: &[u8], op: &[u8], opc: &mut [u8]) -> Result<(), Error> {
+    no_value(unsafe {
         c::vetrhoss_opc(
             k.as_ptr(),
             k.len(),
@@ -51,8 +43,9 @@ pub fn opc(k: &[u8], op: &[u8], opc: &mut [u8]) -> Answer {
     })
 }
 
-pub fn new_usim(set: u8, k: &[u8], opc: &[u8], image: &mut [u8]) -> Answer {
-    Answer::of(unsafe {
+/// The image of a new card.
+pub fn new_usim(set: u8, k: &[u8], opc: &[u8], image: &mut [u8]) -> Result<(), Error> {
+    no_value(unsafe {
         c::vetrhoss_new_usim(
             set,
             k.as_ptr(),
@@ -65,8 +58,9 @@ pub fn new_usim(set: u8, k: &[u8], opc: &[u8], image: &mut [u8]) -> Answer {
     })
 }
 
-pub fn new_auc(set: u8, k: &[u8], opc: &[u8], amf: &[u8], image: &mut [u8]) -> Answer {
-    Answer::of(unsafe {
+/// The image of a new centre record.
+pub fn new_auc(set: u8, k: &[u8], opc: &[u8], amf: &[u8], image: &mut [u8]) -> Result<(), Error> {
+    no_value(unsafe {
         c::vetrhoss_new_auc(
             set,
             k.as_ptr(),
@@ -81,16 +75,23 @@ pub fn new_auc(set: u8, k: &[u8], opc: &[u8], amf: &[u8], image: &mut [u8]) -> A
     })
 }
 
-/// Where the card's answer goes.
-pub struct Given<'a> {
+/// Where the card's answer goes. What a verdict does not give is zeros; only a
+/// refusal leaves the buffers as they were.
+pub struct AnswerBuffers<'a> {
     pub res: &'a mut [u8],
     pub ck: &'a mut [u8],
     pub ik: &'a mut [u8],
     pub auts: &'a mut [u8],
 }
 
-pub fn challenge(image: &mut [u8], rand: &[u8], autn: &[u8], given: Given) -> Answer {
-    Answer::of(unsafe {
+/// The card's answer to a challenge: the accepted SQN.
+pub fn challenge(
+    image: &mut [u8],
+    rand: &[u8],
+    autn: &[u8],
+    answer: AnswerBuffers,
+) -> Result<u64, Error> {
+    value(unsafe {
         c::vetrhoss_challenge(
             image.as_mut_ptr(),
             image.len(),
@@ -98,20 +99,21 @@ pub fn challenge(image: &mut [u8], rand: &[u8], autn: &[u8], given: Given) -> An
             rand.len(),
             autn.as_ptr(),
             autn.len(),
-            given.res.as_mut_ptr(),
-            given.res.len(),
-            given.ck.as_mut_ptr(),
-            given.ck.len(),
-            given.ik.as_mut_ptr(),
-            given.ik.len(),
-            given.auts.as_mut_ptr(),
-            given.auts.len(),
+            answer.res.as_mut_ptr(),
+            answer.res.len(),
+            answer.ck.as_mut_ptr(),
+            answer.ck.len(),
+            answer.ik.as_mut_ptr(),
+            answer.ik.len(),
+            answer.auts.as_mut_ptr(),
+            answer.auts.len(),
         )
     })
 }
 
-pub fn order(image: &mut [u8], count: u64, rands: &[u8], batch: &mut [u8]) -> Answer {
-    Answer::of(unsafe {
+/// A batch of fresh vectors from the centre.
+pub fn order(image: &mut [u8], count: u64, rands: &[u8], batch: &mut [u8]) -> Result<(), Error> {
+    no_value(unsafe {
         c::vetrhoss_order(
             image.as_mut_ptr(),
             image.len(),
@@ -124,32 +126,54 @@ pub fn order(image: &mut [u8], count: u64, rands: &[u8], batch: &mut [u8]) -> An
     })
 }
 
-/// `failure` is the RAND of the challenge that failed, and the card's AUTS.
+/// A synchronisation failure: the RAND of the challenge, and the card's AUTS.
+#[derive(Clone, Copy)]
+pub struct Failure<'a> {
+    pub rand: &'a [u8],
+    pub auts: &'a [u8],
+}
+
+/// What a resynchronisation did with SEQ_HE.
+#[derive(Clone, Copy, Debug, PartialEq, Eq)]
+pub enum SeqHe {
+    /// It was in range, and the batch goes on from it.
+    Kept,
+    /// It first became the card's SEQ_MS.
+    Reset,
+}
+
+/// A batch of fresh vectors after a synchronisation failure.
 pub fn resynchronise(
     image: &mut [u8],
     count: u64,
-    failure: [&[u8]; 2],
+    failure: Failure,
     rands: &[u8],
     batch: &mut [u8],
-) -> Answer {
-    let [rand, auts] = failure;
-    Answer::of(unsafe {
+) -> Result<SeqHe, Error> {
+    let result = unsafe {
         c::vetrhoss_resynchronise(
             image.as_mut_ptr(),
             image.len(),
             count,
-            rand.as_ptr(),
-            rand.len(),
-            auts.as_ptr(),
-            auts.len(),
+            failure.rand.as_ptr(),
+            failure.rand.len(),
+            failure.auts.as_ptr(),
+            failure.auts.len(),
             rands.as_ptr(),
             rands.len(),
             batch.as_mut_ptr(),
             batch.len(),
         )
-    })
+    };
+    match value(result)? {
+        KEPT => Ok(SeqHe::Kept),
+        RESET => Ok(SeqHe::Reset),
+        value => panic!("the header names no value {value} of a resynchronisation"),
+    }
 }
 
-pub fn vector_at(batch: &[u8], k: u64) -> Answer {
-    Answer::of(unsafe { c::vetrhoss_vector_at(batch.as_ptr(), batch.len(), k) })
+/// Where vector k, counted from 0, begins in a batch.
+pub fn vector_at(batch: &[u8], k: u64) -> Result<usize, Error> {
+    let offset = value(unsafe { c::vetrhoss_vector_at(batch.as_ptr(), batch.len(), k) })?;
+    Ok(offset as usize)
 }

@@ -1,6 +1,22 @@
 //! A call of an exported function, as data.
 
-use vetrhoss::Answer;
+use vetrhoss::DONE;
+
+/// What a call returned: a number of the header, and the value that goes with it.
+#[derive(Clone, Copy, Debug, PartialEq, Eq)]
+pub struct Answer {
+    pub number: u8,
+    pub value: u64,
+}
+
+impl Answer {
+    pub fn done(value: u64) -> Answer {
+        Answer {
+            number: DONE,
+            value,
+        }
+    }
+}
 
 #[derive(Clone, Copy, Debug, PartialEq, Eq, PartialOrd, Ord)]
 pub enum Function {

@@ -7,9 +7,13 @@ use reference::random::Random;
 use reference::usim::{sqn, sqn_bytes, Card, D, PLACES, SEQ_LIMIT};
 use reference::vector::{LENGTH, MOST};
 use reference::{auc_image, image};
+use vetrhoss::{AUTS_SIZE, CK_SIZE, IK_SIZE, OPC_SIZE, RES_SIZE, VECTOR_SIZE};
 
 use crate::call::{Call, Function, ALL};
 use crate::compare::Comparison;
+
+/// The buffers for RES, CK, IK and AUTS.
+pub const ANSWER_SIZES: [usize; 4] = [RES_SIZE, CK_SIZE, IK_SIZE, AUTS_SIZE];
 
 /// The calls of each function.
 const CALLS: usize = 20_000;
@@ -21,7 +25,7 @@ const HUGE: [u64; 8] = [
     1 << 32,
     (1 << 32) + 1,
     1 << 61,
-    u64::MAX / 72 + 1,
+    u64::MAX / VECTOR_SIZE as u64 + 1,
     u64::MAX - 1,
     u64::MAX,
 ];
@@ -40,7 +44,7 @@ pub fn random_call(function: Function, random: &mut Random) -> Call {
         Function::Opc => call(
             function,
             0,
-            vec![key(random), key(random), filler(16, random)],
+            vec![key(random), key(random), filler(OPC_SIZE, random)],
         ),
         Function::NewUsim => new_usim(random),
         Function::NewAuc => new_auc(random),
@@ -184,7 +188,7 @@ fn challenge(random: &mut Random) -> Call {
         spoil_image(&mut image, random);
     }
     let mut buffers = vec![image.to_vec(), rand.to_vec(), autn.to_vec()];
-    buffers.extend([8, 16, 16, 14].map(|size| filler(size, random)));
+    buffers.extend(ANSWER_SIZES.map(|size| filler(size, random)));
     call(Function::Challenge, 0, buffers)
 }
 

@@ -7,10 +7,10 @@ use reference::image::LENGTH as CARD;
 use reference::random::Random;
 use reference::usim::{D, SEQ_LIMIT};
 use reference::vector::{Bytes, Vector, LENGTH, MOST};
-use vetrhoss::{DONE, SYNCH_FAILURE};
+use vetrhoss::{AMF_SIZE, DONE, K_SIZE, OPC_SIZE, OP_SIZE, RAND_SIZE, SYNCH_FAILURE};
 
 use crate::call::{Call, Function};
-use crate::cases::filler;
+use crate::cases::{filler, ANSWER_SIZES};
 use crate::compare::{Comparison, Outcome};
 
 const CHAINS: usize = 150;
@@ -56,9 +56,9 @@ impl<'a, 'b> Chain<'a, 'b> {
             used: Vec::new(),
         };
         let set = chain.random.draw() % 2;
-        let [k, op, opc] = [(); 3].map(|_| filler(16, chain.random));
+        let [k, op, opc] = [K_SIZE, OP_SIZE, OPC_SIZE].map(|size| filler(size, chain.random));
         let opc = last(chain.call(Function::Opc, 0, vec![k.clone(), op, opc])?);
-        let amf = filler(2, chain.random);
+        let amf = filler(AMF_SIZE, chain.random);
         let keys = vec![k, opc];
         let card = [keys.clone(), vec![filler(CARD, chain.random)]].concat();
         let centre = [keys, vec![amf, filler(CENTRE, chain.random)]].concat();
@@ -106,7 +106,7 @@ impl<'a, 'b> Chain<'a, 'b> {
     fn lent(&mut self) -> (u64, [Vec<u8>; 2]) {
         let count = self.random.below(MOST + 1);
         let n = if count == 0 { MOST } else { count };
-        let lent = [16, LENGTH].map(|size| filler(size * n, self.random));
+        let lent = [RAND_SIZE, LENGTH].map(|size| filler(size * n, self.random));
         (count as u64, lent)
     }
 
@@ -171,7 +171,7 @@ impl<'a, 'b> Chain<'a, 'b> {
     fn challenge(&mut self, vector: Vector) -> Result<Option<Failure>, String> {
         let (rand, autn) = (vector.rand.to_vec(), vector.autn.to_vec());
         let mut buffers = vec![self.card.clone(), rand, autn];
-        buffers.extend([8, 16, 16, 14].map(|size| filler(size, self.random)));
+        buffers.extend(ANSWER_SIZES.map(|size| filler(size, self.random)));
         let Outcome { answer, buffers } = self.call(Function::Challenge, 0, buffers)?;
         self.card.clone_from(&buffers[0]);
         let (keys, auts) = (buffers[3..6].concat(), &buffers[6]);

@@ -2,10 +2,9 @@
 
 use reference::random::Random;
 use reference::text::write_bytes;
-use vetrhoss::Answer;
 
 use crate::arena::Arena;
-use crate::call::{is_refusal, Answers, Call};
+use crate::call::{is_refusal, Answer, Answers, Call};
 use crate::second;
 use crate::tally::Tally;
 

@@ -1,38 +1,54 @@
 //! The proved library's answer.
 
-use vetrhoss::{Answer, Given};
+use vetrhoss::{AnswerBuffers, Error, Failure, SeqHe, KEPT, RESET};
 
-use crate::call::{named, Function};
+use crate::call::{named, Answer, Function};
 
 pub fn answer(function: Function, number: u64, lent: Vec<&mut [u8]>) -> Answer {
-    match function {
+    let done = match function {
         Function::Opc => {
             let [k, op, opc] = named(lent);
-            vetrhoss::opc(k, op, opc)
+            vetrhoss::opc(k, op, opc).map(|()| 0)
         }
         Function::NewUsim => {
             let [k, opc, image] = named(lent);
-            vetrhoss::new_usim(number as u8, k, opc, image)
+            vetrhoss::new_usim(number as u8, k, opc, image).map(|()| 0)
         }
         Function::NewAuc => {
             let [k, opc, amf, image] = named(lent);
-            vetrhoss::new_auc(number as u8, k, opc, amf, image)
+            vetrhoss::new_auc(number as u8, k, opc, amf, image).map(|()| 0)
         }
         Function::Challenge => {
             let [image, rand, autn, res, ck, ik, auts] = named(lent);
-            vetrhoss::challenge(image, rand, autn, Given { res, ck, ik, auts })
+            vetrhoss::challenge(image, rand, autn, AnswerBuffers { res, ck, ik, auts })
         }
         Function::Order => {
             let [image, rands, batch] = named(lent);
-            vetrhoss::order(image, number, rands, batch)
+            vetrhoss::order(image, number, rands, batch).map(|()| 0)
         }
         Function::Resynchronise => {
             let [image, rand, auts, rands, batch] = named(lent);
-            vetrhoss::resynchronise(image, number, [rand, auts], rands, batch)
+            let failure = Failure { rand, auts };
+            vetrhoss::resynchronise(image, number, failure, rands, batch).map(|did| match did {
+                SeqHe::Kept => KEPT,
+                SeqHe::Reset => RESET,
+            })
         }
         Function::VectorAt => {
             let [batch] = named(lent);
-            vetrhoss::vector_at(batch, number)
+            vetrhoss::vector_at(batch, number).map(|offset| offset as u64)
         }
+    };
+    done.map_or_else(not_done, Answer::done)
+}
+
+fn not_done(error: Error) -> Answer {
+    let value = match error {
+        Error::EqualRands { first, second } => u64::from(first) + 256 * u64::from(second),
+        _ => 0,
+    };
+    Answer {
+        number: error.number(),
+        value,
     }
 }

@@ -1,13 +1,13 @@
 //! What the second program answers, put together from its own functions.
 
-use reference::auc::{Auc, Refused, Start, BAD_COUNT};
+use reference::auc::{Auc, Refused, Start};
 use reference::functions::Subscriber;
 use reference::usim::{Card, Refusal, Verdict, BAD_LENGTH, BAD_RECORD};
-use reference::vector::{handed_back, MOST};
+use reference::vector::handed_back;
 use reference::{auc_image, image, milenage};
-use vetrhoss::{Answer, DONE, KEPT, MAC_FAILURE, RESET, SYNCH_FAILURE};
+use vetrhoss::{KEPT, MAC_FAILURE, RESET, SYNCH_FAILURE};
 
-use crate::call::{named, Function};
+use crate::call::{named, Answer, Function};
 
 pub fn answer(function: Function, number: u64, lent: Vec<&mut [u8]>) -> Answer {
     let answered = match function {
@@ -20,13 +20,6 @@ pub fn answer(function: Function, number: u64, lent: Vec<&mut [u8]>) -> Answer {
         Function::VectorAt => vector_at(number, named(lent)),
     };
     answered.unwrap_or_else(refused)
-}
-
-fn done(value: u64) -> Answer {
-    Answer {
-        number: DONE,
-        value,
-    }
 }
 
 fn without_value(number: u8) -> Answer {
@@ -55,7 +48,7 @@ fn place<const N: usize>(bytes: &mut [u8]) -> Result<&mut [u8; N], Refusal> {
 fn opc([k, op, opc]: [&mut [u8]; 3]) -> Result<Answer, Refused> {
     let (k, op) = (sized(k)?, sized(op)?);
     *place(opc)? = milenage::opc(&k, &op);
-    Ok(done(0))
+    Ok(Answer::done(0))
 }
 
 /// The set is judged before any size.
@@ -71,13 +64,13 @@ fn subscriber(set: u64, k: &[u8], opc: &[u8]) -> Result<Subscriber, Refusal> {
 
 fn new_usim(set: u64, [k, opc, image]: [&mut [u8]; 3]) -> Result<Answer, Refused> {
     image::write(&Card::new(subscriber(set, k, opc)?), image)?;
-    Ok(done(0))
+    Ok(Answer::done(0))
 }
 
 fn new_auc(set: u64, [k, opc, amf, image]: [&mut [u8]; 4]) -> Result<Answer, Refused> {
     let subscriber = subscriber(set, k, opc)?;
     auc_image::write(&Auc::new(subscriber, sized(amf)?), image)?;
-    Ok(done(0))
+    Ok(Answer::done(0))
 }
 
 fn challenge(lent: [&mut [u8]; 7]) -> Result<Answer, Refused> {
@@ -86,7 +79,7 @@ fn challenge(lent: [&mut [u8]; 7]) -> Result<Answer, Refused> {
     let (res, ck, ik, auts) = (place(res)?, place(ck)?, place(ik)?, place(auts)?);
     let answer = card.challenge(rand, autn);
     let verdict = match answer.verdict {
-        Verdict::Accepted { sqn } => done(sqn),
+        Verdict::Accepted { sqn } => Answer::done(sqn),
         Verdict::Mac => without_value(MAC_FAILURE),
         Verdict::Sync => without_value(SYNCH_FAILURE),
         Verdict::Refused(refusal) => return Err(refusal.into()),
@@ -99,27 +92,20 @@ fn challenge(lent: [&mut [u8]; 7]) -> Result<Answer, Refused> {
     Ok(verdict)
 }
 
-/// The count is judged without the contents of an image of another length.
-fn centre(image: &[u8], count: u64) -> Result<Auc, Refusal> {
-    match auc_image::read(image) {
-        Err(BAD_LENGTH) if count > MOST as u64 => Err(BAD_COUNT),
-        read => read,
-    }
-}
-
+/// The image is read first, whatever the count is.
 fn order(count: u64, [image, rands, batch]: [&mut [u8]; 3]) -> Result<Answer, Refused> {
-    let next = centre(image, count)?.order(count, rands, batch)?;
+    let next = auc_image::read(image)?.order(count, rands, batch)?;
     auc_image::write(&next, image)?;
-    Ok(done(0))
+    Ok(Answer::done(0))
 }
 
 fn resynchronise(count: u64, lent: [&mut [u8]; 5]) -> Result<Answer, Refused> {
     let [image, rand, auts, rands, batch] = lent;
-    let (start, next) = centre(image, count)?.resync(count, [rand, auts], rands, batch)?;
+    let (start, next) = auc_image::read(image)?.resync(count, [rand, auts], rands, batch)?;
     auc_image::write(&next, image)?;
     Ok(match start {
-        Start::Kept => done(KEPT),
-        Start::Reset => done(RESET),
+        Start::Kept => Answer::done(KEPT),
+        Start::Reset => Answer::done(RESET),
     })
 }
 
@@ -128,7 +114,7 @@ fn vector_at(k: u64, [batch]: [&mut [u8]; 1]) -> Result<Answer, Refused> {
     if vector.is_empty() {
         return Err(BAD_LENGTH.into());
     }
-    Ok(done(
+    Ok(Answer::done(
         (vector.as_ptr() as usize - batch.as_ptr() as usize) as u64,
     ))
 }

@@ -1,6 +1,7 @@
 //! Every buffer of every function with each wrong size, all else being right.
 
 use reference::random::Random;
+use vetrhoss::VECTOR_SIZE;
 
 use crate::call::{is_refusal, Call, Function, ALL};
 use crate::cases::{filler, random_call};
@@ -47,7 +48,7 @@ fn each_size(
         let mut call = good.clone();
         call.buffers[place] = filler(size, random);
         let answer = comparison.call(&call)?.answer;
-        let batch_of_another_size = good.function == Function::VectorAt && size % 72 == 0;
+        let batch_of_another_size = good.function == Function::VectorAt && size % VECTOR_SIZE == 0;
         if !is_refusal(answer) && !batch_of_another_size {
             return Err(format!(
                 "{:?} takes {size} bytes for buffer {place}",

@@ -3,9 +3,9 @@
 use std::collections::BTreeMap;
 use std::fmt;
 
-use vetrhoss::{Answer, DONE, KEPT};
+use vetrhoss::{DONE, KEPT};
 
-use crate::call::{Function, ALL};
+use crate::call::{Answer, Function, ALL};
 
 /// Enough of each kind that its inner cases are met too.
 const LEAST: usize = 30;

@@ -1,12 +1,12 @@
 //! The comparison notices what it is there to notice: each library here is the
 //! second program with one fault.
 
-use comparison::call::{is_refusal, Function};
+use comparison::call::{is_refusal, Answer, Function};
 use comparison::compare::Comparison;
 use comparison::tally::Tally;
 use comparison::{cases, chains, second, sizes};
 use reference::random::Random;
-use vetrhoss::{Answer, DONE, MAC_FAILURE, SYNCH_FAILURE};
+use vetrhoss::{DONE, LARGEST_BATCH, MAC_FAILURE, SYNCH_FAILURE, VECTOR_SIZE};
 
 /// Spoils an answer or the buffers after the call.
 type Fault = fn(Function, &mut Answer, &mut [&mut [u8]]);
@@ -94,8 +94,8 @@ fn an_sqn_off_by_one() {
 #[test]
 fn the_last_vector_of_five() {
     assert!(is_noticed(|function, _, lent| {
-        if function == Function::Order && lent[2].len() == 360 {
-            lent[2][359] ^= 1;
+        if function == Function::Order && lent[2].len() == LARGEST_BATCH * VECTOR_SIZE {
+            lent[2][LARGEST_BATCH * VECTOR_SIZE - 1] ^= 1;
         }
     }));
 }

@@ -1,11 +1,25 @@
 //! A library that gives another refusal than the lowest is noticed: each one
 //! here is the second program with two refusals looked at in the wrong order.
 
-use comparison::call::Function;
+use comparison::call::{Answer, Function};
 use comparison::compare::Comparison;
 use comparison::{cases, second};
 use reference::random::Random;
-use vetrhoss::Answer;
+use vetrhoss::{AMF_SIZE, AUC_IMAGE_SIZE, AUTN_SIZE, K_SIZE, OPC_SIZE, RAND_SIZE, USIM_IMAGE_SIZE};
+use vetrhoss::{AUTS_SIZE, CK_SIZE, IK_SIZE, LARGEST_BATCH, RES_SIZE};
+
+const MOST: u64 = LARGEST_BATCH as u64;
+
+/// The buffers of a challenge.
+const CHALLENGE_SIZES: [usize; 7] = [
+    USIM_IMAGE_SIZE,
+    RAND_SIZE,
+    AUTN_SIZE,
+    RES_SIZE,
+    CK_SIZE,
+    IK_SIZE,
+    AUTS_SIZE,
+];
 
 /// The refusal that comes too early, or 0.
 type Early = fn(Function, u64, &[&mut [u8]]) -> u8;
@@ -57,39 +71,40 @@ fn in_the_right_order_all_agree() {
 #[test]
 fn size_before_set() {
     assert!(is_noticed(|function, _, lent| match function {
-        Function::NewUsim => unless_sized(lent, &[16, 16, 205]),
+        Function::NewUsim => unless_sized(lent, &[K_SIZE, OPC_SIZE, USIM_IMAGE_SIZE]),
         _ => 0,
     }));
     assert!(is_noticed(|function, _, lent| match function {
-        Function::NewAuc => unless_sized(lent, &[16, 16, 2, 41]),
+        Function::NewAuc => unless_sized(lent, &[K_SIZE, OPC_SIZE, AMF_SIZE, AUC_IMAGE_SIZE]),
         _ => 0,
     }));
     assert!(is_noticed(|function, _, lent| match function {
-        Function::Challenge => unless_sized(lent, &[205, 16, 16, 8, 16, 16, 14]),
+        Function::Challenge => unless_sized(lent, &CHALLENGE_SIZES),
         _ => 0,
     }));
 }
 
+/// Where the image has the size named, so that its edition or set is unknown.
 #[test]
 fn count_before_edition() {
-    assert!(is_noticed(|function, count, _| match function {
-        Function::Order if count > 5 => 2,
+    assert!(is_noticed(|function, count, lent| match function {
+        Function::Order if count > MOST && lent[0].len() == AUC_IMAGE_SIZE => 2,
         _ => 0,
     }));
-    assert!(is_noticed(|function, count, _| match function {
-        Function::Resynchronise if count > 5 => 2,
+    assert!(is_noticed(|function, count, lent| match function {
+        Function::Resynchronise if count > MOST && lent[0].len() == AUC_IMAGE_SIZE => 2,
         _ => 0,
     }));
 }
 
 #[test]
-fn size_of_the_image_before_count() {
-    assert!(is_noticed(|function, _, lent| match function {
-        Function::Order => unless_sized(lent, &[41]),
+fn count_before_the_size_of_the_image() {
+    assert!(is_noticed(|function, count, lent| match function {
+        Function::Order if count > MOST && lent[0].len() != AUC_IMAGE_SIZE => 2,
         _ => 0,
     }));
-    assert!(is_noticed(|function, _, lent| match function {
-        Function::Resynchronise => unless_sized(lent, &[41]),
+    assert!(is_noticed(|function, count, lent| match function {
+        Function::Resynchronise if count > MOST && lent[0].len() != AUC_IMAGE_SIZE => 2,
         _ => 0,
     }));
 }
@@ -101,7 +116,7 @@ fn copies(lent: &[&mut [u8]]) -> Vec<Vec<u8>> {
 /// The RANDs are made unlike, so that what comes behind refusal 4 is answered.
 fn with_unlike_rands(lent: &[&mut [u8]], place: usize) -> Vec<Vec<u8>> {
     let mut buffers = copies(lent);
-    for (number, rand) in buffers[place].chunks_mut(16).enumerate() {
+    for (number, rand) in buffers[place].chunks_mut(RAND_SIZE).enumerate() {
         rand[0] = number as u8;
     }
     buffers

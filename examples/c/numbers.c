@@ -81,6 +81,18 @@ static uint64_t resynchronise(const uint8_t *lent)
                                   sizeof rand, batch + VETRHOSS_VECTOR_SIZE, VETRHOSS_VECTOR_SIZE);
 }
 
+/* An image is read first: its refusal comes before the count's. */
+static void images_first(void)
+{
+    const uint64_t six = VETRHOSS_LARGEST_BATCH + 1;
+    expect_number("an image too short, and a count too large",
+                  vetrhoss_order(centre, sizeof centre - 1, six, k, 0, batch, sizeof batch), VETRHOSS_BAD_SIZE);
+    centre[0] ^= 0xf0;
+    expect_number("an unknown edition, and a count too large",
+                  vetrhoss_order(centre, sizeof centre, six, k, 0, batch, sizeof batch), VETRHOSS_BAD_IMAGE);
+    centre[0] ^= 0xf0;
+}
+
 static void refusals(void)
 {
     static const uint8_t unequal[VETRHOSS_LARGEST_BATCH] = {1, 2, 3, 4, 5};
@@ -139,6 +151,7 @@ int main(void)
 {
     new_card();
     new_centre();
+    images_first();
     refusals();
     verdicts();
     resynchronisations();

@@ -10,6 +10,9 @@ pub const LONGEST: usize = 4096;
 // The octets of the largest buffer that is lent for an image or a batch.
 pub const MOST_LENT: usize = 512;
 
+// The sizes that such a buffer may have, 0 among them.
+const LENT_SIZES: u64 = MOST_LENT as u64 + 1;
+
 // The fields of a line.
 const MOST_FIELDS: usize = 40;
 
@@ -239,7 +242,7 @@ pub fn lent_size(c: Call, i: usize) -> usize
     requires { ⌜ i < mostFields ⌝ }
     ensures { λ r. ⌜ r ≤ mostLent ⌝ }
 {
-    (number(c, i) % 513) as usize
+    (number(c, i) % LENT_SIZES) as usize
 }
 
 // The octets of field `i`.

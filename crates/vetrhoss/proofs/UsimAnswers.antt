@@ -11,7 +11,8 @@ use Rattle.octets.specs.Octets.{Octets, decode}
 use Rattle.functions.specs.Sets.{sets}
 use Rattle.aka.specs.Functions.{Functions}
 use Rattle.aka.specs.Sequence.{limit, width, sqnBits}
-use Rattle.aka.specs.Usim.{Usim, UsimAnswer, Verdict, accepted, macFailure, syncFailure, refused, validUsim, seqIn, indIn, sqnIn, answerWith, challenge}
+use Rattle.aka.specs.Usim.{Usim, UsimAnswer, validUsim, seqIn, indIn, sqnIn, answerWith, challenge}
+use Rattle.aka.specs.Usim.{Verdict, accepted, macFailure, syncFailure, refused}
 use Rattle.aka.proofs.Places.{within-set}
 use Rattle.aka.proofs.Sequence.{seq-le}
 use Rattle.aka.proofs.Verdicts.{valid-parts, answer-of, not-accepted-unchanged}

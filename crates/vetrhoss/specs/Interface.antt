@@ -1,6 +1,6 @@
--- The C interface: what each call returns, and what the octets lent to it hold at the end, for octets of any length and contents. The numbers
--- returned are those of Results. A refusal leaves the octets as they were. An image is read first: what its reading refuses is the call's
--- answer, before every other refusal. Assumes nothing: these are definitions.
+-- The C interface: what each call returns, and what the octets lent to it hold at the end, for octets of any length and contents. The
+-- numbers returned are those of Results. A refusal leaves the octets as they were. An image is read first: what its reading refuses is the
+-- call's answer, before every other refusal. Assumes nothing: these are definitions.
 use Prim.Native.Nat.{ℕ, _*_}
 use mathlib.Core.Bool.{Bool, _&&_, not, cond}
 use lib.Dec.{eqb}
@@ -10,7 +10,6 @@ use Rattle.aes.specs.Cipher.{aes}
 use Rattle.milenage.specs.Opc.{opc}
 use Rattle.functions.specs.Sets.{sets}
 use Rattle.aka.specs.Layout.{keySize, amfSize, resSize, ckSize, ikSize, autsSize, vectorSize, isPlace}
-use Rattle.aka.specs.Functions.{Keys}
 use Rattle.aka.specs.Usim as card
 use Rattle.aka.specs.Auc as centre
 use Rattle.aka.specs.Sequence.{width}
@@ -61,6 +60,7 @@ newAucCall set k opc amf buffer =
 
 -- ---- the card
 
+-- the octets that a challenge is lent to write to
 pub record UsimOctets : Type 0 where
   pub image : Octets
   pub res : Octets
@@ -68,6 +68,7 @@ pub record UsimOctets : Type 0 where
   pub ik : Octets
   pub auts : Octets
 
+-- the buffers for the answer have their sizes
 abbrev pub answerSized : (res ck ik auts : Octets) → Bool
 answerSized res ck ik auts = has resSize res && has ckSize ck && has ikSize ik && has autsSize auts
 
@@ -85,7 +86,7 @@ bufferAfter card.macFailure buffer part = part
 bufferAfter card.syncFailure buffer part = part
 bufferAfter (card.refused number) buffer part = buffer
 
--- an answer, with the SQN that it accepts
+-- what an answer of the card comes to, with the SQN that it accepts
 abbrev pub usimReturns : card.UsimAnswer → (sqn : ℕ) → UsimOctets → Returned UsimOctets
 usimReturns a sqn lent = record {
   result = verdictResult (a .verdict) sqn;
@@ -98,6 +99,7 @@ usimReturns a sqn lent = record {
   };
 }
 
+-- a challenge of the card that an image holds
 unfoldable pub challengeCall : (lent : UsimOctets) (rand autn : Octets) → Returned UsimOctets
 challengeCall lent rand autn =
     let read = usim.readAnswer width sets (lent .image) in
@@ -108,6 +110,7 @@ challengeCall lent rand autn =
 
 -- ---- the centre
 
+-- the octets that an order or a resynchronisation is lent to write to
 pub record AucOctets : Type 0 where
   pub image : Octets
   pub batch : Octets
@@ -120,13 +123,14 @@ aucImageAfter centre.reset image next = next
 aucImageAfter (centre.refused number) image next = image
 aucImageAfter (centre.repeated i j) image next = image
 
+-- what an answer of the centre comes to
 abbrev pub aucReturns : centre.AucAnswer → (image : Octets) → Returned AucOctets
 aucReturns a image = record {
   result = outcomeResult (a .outcome);
   octets = record { image = aucImageAfter (a .outcome) image (auc.image width (a .auc)); batch = a .batch };
 }
 
--- the record in an image is asked
+-- the record that an image holds is asked
 unfoldable pub onImage : (lent : AucOctets) → (centre.Auc → centre.AucAnswer) → Returned AucOctets
 onImage lent ask =
     let read = auc.readAnswer width sets (lent .image) in

@@ -1,5 +1,5 @@
--- What a call of the C interface returns: one number. Its low 8 bits are 0 for done, document 01's refusal number, or the cause of a failure;
--- above them stands the value that goes with it, 0 where none is named. Assumes nothing: these are definitions.
+-- What a call of the C interface returns: one number. Its low 8 bits are 0 for done, document 01's refusal number, or the cause of a
+-- failure; above them stands the value that goes with it, 0 where none is named. Assumes nothing: these are definitions.
 use Prim.Native.Nat.{ℕ, _+_, _*_}
 use Rattle.aka.specs.Usim as card
 use Rattle.aka.specs.Auc as centre

@@ -1,6 +1,6 @@
-// The C interface: the calls that programs in C and Rust link (include/vetrhoss.h). Records are lent as their packed images; an image is read
-// first, and what its reading refuses is the call's answer. A call returns one number: the low 8 bits are 0, a refusal's number or a failure's
-// cause, and the rest is the value that goes with it.
+// The C interface: the calls that programs in C and Rust link (include/vetrhoss.h). Records are lent as their packed images; an image is
+// read first, and what its reading refuses is the call's answer. A call returns one number: the low 8 bits are 0, a refusal's number or a
+// failure's cause, and the rest is the value that goes with it.
 mod auc_answer;
 mod buffers;
 mod results;

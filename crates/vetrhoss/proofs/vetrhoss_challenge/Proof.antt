@@ -1,14 +1,16 @@
 -- `vetrhoss_challenge` is `challengeCall`. Assumes nothing.
-use mathlib.Core.Bool.{true, false}
+use mathlib.Core.Bool.{true}
 use mathlib.Core.Path.{_≡_, refl, sym, _∙_}
 use borrow.Author.Tests.{eq-eqb, ne-eqb, not-true, not-false}
-use Rattle.vetrhoss.specs.Interface.{UsimOctets, challengeCall}
+use Rattle.usim_record.specs.Views.{sqnGiven, answerOf}
+use Rattle.vetrhoss.specs.Interface.{Returned, UsimOctets, answerSized, usimReturns, challengeCall}
 use Rattle.vetrhoss.proofs.UsimAnswers.{read-valid, refusal, given, next-valid, handed-on}
 use borrow.Author.Needs.{needs}
 use Rattle.vetrhoss.proofs.vetrhoss_challenge.Statement.{statement}
 use Rattle.vetrhoss.proofs.vetrhoss_challenge.Tie as tie
 
--- the stations, from the last to the first: the answer is handed on, the buffers filled, the card asked, the buffers measured, the image read
+-- the stations, from the last to the first: the answer is handed on, the buffers filled, the card asked, the buffers measured, the image
+-- read
 abbrev handed : tie.After-slice-known10 → tie.After-hand-on
 handed c = c .before .before
 
@@ -17,9 +19,6 @@ filled c = c .before .before .before .before .before .before .before .before .be
 
 abbrev answered : tie.After-fill-all-arg4 → tie.At-match-keys2
 answered c = c .before .before .before .before
-
-abbrev refused : tie.After-known-told → tie.After-verdict
-refused c = c .before
 
 abbrev measured : tie.After-challenge → tie.After-are-sized
 measured c = c .before .before
@@ -33,6 +32,9 @@ is-read c = c .before .before
 abbrev entry : tie.After-read → tie.Start
 entry c = c .before .before .before .before .before .before .before .before .before
 
+abbrev start : tie.After-challenge → tie.Start
+start c = entry (is-read (taken (measured c) .before))
+
 abbrev lent : tie.Start → UsimOctets
 lent c = record {
   image = c .args .image .now;
@@ -42,6 +44,8 @@ lent c = record {
   auts = c .args .auts .now;
 }
 
+-- ---- the image is not read, or a buffer has another size
+
 returns : tie.Need-returns
 unfolding challengeCall
 returns c = rw (← is-read (c .before .before) .read .ensures, ne-eqb _ 0 (c .before .if1 .taken)) refl
@@ -49,47 +53,51 @@ returns c = rw (← is-read (c .before .before) .read .ensures, ne-eqb _ 0 (c .b
 returns-2 : tie.Need-returns-2
 unfolding challengeCall
 returns-2 c =
-    let sizes = c .before in
-    let image = taken sizes in
-    let unsized = sym (sizes .are-sized .ensures) ∙ not-true _ (c .if2 .taken) in
+    let image = taken (c .before) in
+    let unsized = sym (c .before .are-sized .ensures) ∙ not-true _ (c .if2 .taken) in
     rw (← is-read (image .before) .read .ensures, eq-eqb _ 0 (image .if1 .left), unsized) refl
 
+-- ---- the card is asked
+
+module _ (c : tie.After-challenge) where
+  abbrev octets : UsimOctets
+  octets = lent (start c)
+
+  sized : answerSized (octets .res) (octets .ck) (octets .ik) (octets .auts) ≡ true
+  sized = sym (measured c .are-sized .ensures) ∙ not-false _ (c .before .if2 .left)
+
+  -- its answer as the code has it is the one due
+  due : {x : Returned UsimOctets}
+      → x ≡ usimReturns (answerOf (c .challenge .result)) (sqnGiven (c .challenge .result .verdict)) octets
+      → x ≡ challengeCall octets (start c .args .rand .now) (start c .args .autn .now)
+  unfolding challengeCall
+  due h =
+      let image = taken (measured c) in
+      rw (← is-read (image .before) .read .ensures, eq-eqb _ 0 (image .if1 .left), sized)
+      (h ∙ handed-on _ _ _ _ _ (c .challenge .ensures .0) (c .challenge .ensures .1 .0))
+
 returns-3 : tie.Need-returns-3
-unfolding challengeCall
 returns-3 c =
-    let verdict = refused c in
-    let ask = verdict .before .before in
-    let sizes = measured ask in
-    let image = taken sizes in
-    let sized = sym (sizes .are-sized .ensures) ∙ not-false _ (ask .before .if2 .left) in
-    rw (← is-read (image .before) .read .ensures, eq-eqb _ 0 (image .if1 .left), sized)
-    (refusal _ _ (verdict .verdict .given .1) ∙ handed-on _ _ _ _ _ (ask .challenge .ensures .0) (ask .challenge .ensures .1 .0))
+    let verdict = c .before in
+    due (verdict .before .before) (refusal _ _ (verdict .verdict .given .1))
 
 fill-all-requires : tie.Need-fill-all-requires
-fill-all-requires c κs =
-    let ask = answered c .before in
-    sym (measured ask .are-sized .ensures) ∙ not-false _ (ask .before .if2 .left)
+fill-all-requires c κs = sized (answered c .before)
 
 hand-on-requires : tie.Need-hand-on-requires
 hand-on-requires c κs =
     let ask = answered (filled c .before) .before in
     let image = taken (measured ask) in
     let valid = read-valid _ _ (is-read (image .before) .read .ensures) (image .if1 .left) in
-    let due = ask .challenge .ensures in
-    ((next-valid _ _ _ (valid .1) _ (due .0) (due .1 .0) (due .1 .1), due .1 .1), valid .0)
+    let answer = ask .challenge .ensures in
+    ((next-valid _ _ _ (valid .1) _ (answer .0) (answer .1 .0) (answer .1 .1), answer .1 .1), valid .0)
 
 returns-4 : tie.Need-returns-4
-unfolding challengeCall
 returns-4 c =
     let fill = filled (handed c .before) in
     let verdict = answered (fill .before) in
     let ask = verdict .before in
-    let sizes = measured ask in
-    let image = taken sizes in
-    let sized = sym (sizes .are-sized .ensures) ∙ not-false _ (ask .before .if2 .left) in
-    rw (← is-read (image .before) .read .ensures, eq-eqb _ 0 (image .if1 .left), sized)
-    (given (ask .challenge .result) (lent (entry (is-read (image .before)))) (verdict .match .keys2) (handed c .hand-on .ensures) (fill .fill-all .ensures)
-    ∙ handed-on _ _ _ _ _ (ask .challenge .ensures .0) (ask .challenge .ensures .1 .0))
+    due ask (given (ask .challenge .result) (octets ask) (verdict .match .keys2) (handed c .hand-on .ensures) (fill .fill-all .ensures))
 
 pub vetrhoss-challenge-spec : {M : Type 1} → statement M
 vetrhoss-challenge-spec =

@@ -37,10 +37,10 @@ unfolding opcCall
 returns-2 c = rw (keys (c .before), ne-eqb _ keySize (c .if2 .taken)) refl
 
 sixteen-requires : tie.Need-sixteen-requires
-sixteen-requires c κs = key-sizes _ _ (keys (c .before)) .0
+sixteen-requires c κs = search (needs, key-sizes _ _ (keys (c .before)))
 
 sixteen-requires-2 : tie.Need-sixteen-requires-2
-sixteen-requires-2 c κs = key-sizes _ _ (keys (c .before .before)) .1
+sixteen-requires-2 c κs = search (needs, key-sizes _ _ (keys (c .before .before)))
 
 returns-3 : tie.Need-returns-3
 unfolding opcCall

@@ -1,6 +1,7 @@
 -- `keys_from` copies K and OPc. Assumes nothing.
 use mathlib.Core.Path.{refl}
 use Rattle.vetrhoss.proofs.Sizes.{key-sizes}
+use borrow.Author.Needs.{needs}
 use Rattle.vetrhoss.proofs.buffers.keys_from.Statement.{statement}
 use Rattle.vetrhoss.proofs.buffers.keys_from.Tie as tie
 
@@ -8,10 +9,10 @@ abbrev entry : tie.After-shared-slice-known2 → tie.Start
 entry c = c .before .before
 
 sixteen-requires : tie.Need-sixteen-requires
-sixteen-requires c κs = key-sizes _ _ (entry c .pre) .0
+sixteen-requires c κs = search (needs, key-sizes _ _ (entry c .pre))
 
 sixteen-requires-2 : tie.Need-sixteen-requires-2
-sixteen-requires-2 c κs = key-sizes _ _ (entry (c .before) .pre) .1
+sixteen-requires-2 c κs = search (needs, key-sizes _ _ (entry (c .before) .pre))
 
 returns : tie.Need-returns
 returns c = rw (c .before .sixteen .ensures, c .sixteen2 .ensures) refl

@@ -1,0 +1,56 @@
+//! The bindings have every number of the header, under the same name.
+
+use std::collections::BTreeMap;
+
+use vetrhoss::*;
+
+const HEADER: &str = include_str!("../../include/vetrhoss.h");
+
+/// The names that stand for one number, without their prefix.
+fn numbers_of_the_header() -> BTreeMap<&'static str, u64> {
+    let defined = HEADER.lines().filter_map(|line| {
+        let mut words = line.strip_prefix("#define VETRHOSS_")?.split_whitespace();
+        Some((words.next()?, words.next()?.parse().ok()?))
+    });
+    defined.collect()
+}
+
+/// The constants named, each with its name.
+macro_rules! named {
+    ($($name:ident)*) => { BTreeMap::from([$((stringify!($name), $name as u64)),*]) };
+}
+
+#[test]
+fn the_bindings_have_its_numbers() {
+    let numbers = named![
+        DONE BAD_IMAGE BAD_COUNT BAD_SIZE EQUAL_RANDS BAD_MAC_S PAST_LIMIT MAC_FAILURE SYNCH_FAILURE
+        KEPT RESET TEST_SET MILENAGE
+        K_SIZE OP_SIZE OPC_SIZE AMF_SIZE RAND_SIZE AUTN_SIZE RES_SIZE CK_SIZE IK_SIZE AUTS_SIZE
+        USIM_IMAGE_SIZE AUC_IMAGE_SIZE VECTOR_SIZE
+        RAND_OFFSET XRES_OFFSET CK_OFFSET IK_OFFSET AUTN_OFFSET LARGEST_BATCH
+    ];
+    assert_eq!(numbers, numbers_of_the_header());
+}
+
+/// A refusal is an error with its number, and 4 has its pair.
+#[test]
+fn refusals_are_errors() {
+    let (keys, mut card, mut centre) = ([0; 16], [0; 205], [0; 41]);
+    let unknown = new_usim(2, &keys, &keys, &mut card);
+    assert_eq!(unknown, Err(Error::BadImage));
+    assert_eq!(
+        new_auc(TEST_SET, &keys, &keys, &[0; 2], &mut centre),
+        Ok(())
+    );
+    let rands = [[1; 16], [2; 16], [1; 16]].concat();
+    let mut batch = [0; 3 * VECTOR_SIZE];
+    let equal = order(&mut centre, 3, &rands, &mut batch);
+    let pair = Error::EqualRands {
+        first: 0,
+        second: 2,
+    };
+    assert_eq!(equal, Err(pair));
+    assert_eq!(pair.number(), EQUAL_RANDS);
+    assert_eq!(vector_at(&batch, 3), Err(Error::BadSize));
+    assert_eq!(vector_at(&batch, 2), Ok(2 * VECTOR_SIZE));
+}
