@@ -77,8 +77,8 @@ static uint64_t resynchronise(const uint8_t *lent)
 {
     uint8_t rand[VETRHOSS_RAND_SIZE];
     memset(rand, 9, sizeof rand);
-    return vetrhoss_resynchronise(centre, sizeof centre, 1, batch + VETRHOSS_RAND_OFFSET, VETRHOSS_RAND_SIZE, lent, VETRHOSS_AUTS_SIZE, rand,
-                                  sizeof rand, batch + VETRHOSS_VECTOR_SIZE, VETRHOSS_VECTOR_SIZE);
+    return vetrhoss_resynchronise(centre, sizeof centre, 1, batch + VETRHOSS_RAND_OFFSET, VETRHOSS_RAND_SIZE, lent, VETRHOSS_AUTS_SIZE,
+                                  rand, sizeof rand, batch + VETRHOSS_VECTOR_SIZE, VETRHOSS_VECTOR_SIZE);
 }
 
 /* An image is read first: its refusal comes before the count's. */

@@ -4,7 +4,7 @@ use crate::functions::Subscriber;
 use crate::text::{self, read_hex, read_number, write_hex, BAD_LINE};
 use crate::usim::Refusal;
 use crate::vlr::Node;
-use crate::{auc_calls, card_calls, node_calls};
+use crate::{auc_calls, usim_calls, vlr_calls};
 
 /// The most bytes that a line may have.
 pub const LONGEST: usize = 4_096;
@@ -34,9 +34,9 @@ pub fn answer_with(node: &mut Node, line: &[u8]) -> Vec<u8> {
 /// a bad line even where the call would be refused.
 fn call(node: &mut Node, line: &[u8]) -> Option<Vec<u8>> {
     let fields: Vec<&[u8]> = line.split(|&b| b == b' ').collect();
-    card_calls::call(&fields)
+    usim_calls::call(&fields)
         .or_else(|| auc_calls::call(&fields))
-        .or_else(|| node_calls::call(node, &fields))
+        .or_else(|| vlr_calls::call(node, &fields))
 }
 
 pub fn read_subscriber([set, k, opc]: [&[u8]; 3]) -> Option<Subscriber> {

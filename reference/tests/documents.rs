@@ -5,10 +5,11 @@ use reference::{bench, calls, text};
 const BENCH: &str = include_str!("../../docs/BENCH.md");
 const STORY: &str = include_str!("../../docs/bench-story.txt");
 
-/// The lines that stand after `>`, and the answers below them.
+/// The lines that stand after `>`, and the answers below them. A line of an
+/// example that begins with two spaces goes on with the one above it.
 fn examples(page: &str) -> (String, String) {
     let (mut given, mut answered, mut fenced) = (String::new(), String::new(), false);
-    for line in page.lines() {
+    for line in page.replace("\n  ", "").lines() {
         if line == "```" {
             fenced = !fenced;
         } else if let Some(example) = line.strip_prefix("> ") {

@@ -18,11 +18,11 @@ pub fn answer(line: &[u8]) -> Text {
         line,
         &mut store,
     );
-    make(c, &store)
+    answer_call(c, &store)
 }
 
 // The words by their places in the list above.
-fn make(c: Call, store: &[u8]) -> Text {
+fn answer_call(c: Call, store: &[u8]) -> Text {
     let word = c.word;
     match word {
         0 => text::no_text(),

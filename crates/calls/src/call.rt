@@ -261,7 +261,7 @@ pub fn copy_front(octets: &[u8], buffer: &mut [u8]) {
     }
 }
 
-fn key(c: Call, i: usize, store: &[u8]) -> [u8; 16]
+fn key(c: Call, i: usize, store: &[u8]) -> [u8; aka::KEY_SIZE]
     requires { ⌜ i < mostFields ⌝ }
 {
     let mut key = [0u8; aka::KEY_SIZE];

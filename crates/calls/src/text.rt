@@ -62,7 +62,8 @@ pub fn put_octets(t: Text, octets: &[u8]) -> Text {
     put(t, console::front(&text, end))
 }
 
-pub fn put_pair(t: Text, a: [u8; 16], b: [u8; 16]) -> Text {
+// Two strings of a key's size: K and OPc, CK and IK, RAND and AUTN.
+pub fn put_two(t: Text, a: [u8; aka::KEY_SIZE], b: [u8; aka::KEY_SIZE]) -> Text {
     put_octets(put_octets(t, &a), &b)
 }
 
@@ -70,7 +71,7 @@ pub fn put_pair(t: Text, a: [u8; 16], b: [u8; 16]) -> Text {
 pub fn put_keys(word: &[u8], keys: Keys) -> Text {
     let k = keys.k;
     let opc = keys.opc;
-    put_pair(numbered(word, keys.set as u64), k, opc)
+    put_two(numbered(word, keys.set as u64), k, opc)
 }
 
 // The image that was written to the front of a buffer, or the refusal.

@@ -18,11 +18,11 @@ pub fn answer(line: &[u8]) -> Text {
         line,
         &mut store,
     );
-    make(c, &store)
+    answer_call(c, &store)
 }
 
 // The words by their places in the list above.
-fn make(c: Call, store: &[u8]) -> Text {
+fn answer_call(c: Call, store: &[u8]) -> Text {
     let word = c.word;
     match word {
         0 => text::no_text(),
@@ -40,6 +40,7 @@ fn record(c: Call, store: &[u8]) -> Usim {
     }
 }
 
+// The first place is field 4.
 fn places(c: Call) -> [u64; aka::PLACES] {
     let mut places = [0u64; aka::PLACES];
     let mut i = 0;
@@ -108,5 +109,5 @@ fn put_accepted(sqn: u64, a: usim::Answer) -> Text {
     let mut image = [0u8; usim_image::SIZE];
     usim_image::write(next, &mut image);
     let t = text::put_octets(text::numbered(b"accepted", sqn), &res);
-    text::put_octets(text::put_pair(t, ck, ik), &image)
+    text::put_octets(text::put_two(t, ck, ik), &image)
 }

@@ -23,10 +23,10 @@ pub fn answer(vlr: Vlr, line: &[u8]) -> Answered {
         line,
         &mut store,
     );
-    make(vlr, c, &store)
+    answer_call(vlr, c, &store)
 }
 
-fn make(vlr: Vlr, c: Call, store: &[u8]) -> Answered {
+fn answer_call(vlr: Vlr, c: Call, store: &[u8]) -> Answered {
     if c.word == 0 {
         return Answered {
             vlr,
@@ -40,8 +40,8 @@ fn make(vlr: Vlr, c: Call, store: &[u8]) -> Answered {
 fn reply(vlr: Vlr, c: Call, store: &[u8]) -> Reply {
     let word = c.word;
     match word {
-        1 => made(vlr::new()),
-        2 => made(record(c, store)),
+        1 => record_reply(vlr::new()),
+        2 => record_reply(record(c, store)),
         3 | 4 | 5 | 6 => with_octets(vlr, c, store),
         _ => bare(vlr, word),
     }
@@ -94,15 +94,15 @@ fn state_of(number: u64) -> State {
 }
 
 // A record that was made, as an answer that gives nothing.
-fn made(vlr: Vlr) -> Reply {
+fn record_reply(vlr: Vlr) -> Reply {
     Reply {
         outcome: Outcome::Done,
         vlr,
-        rand: [0; 16],
-        autn: [0; 16],
-        auts: [0; 14],
-        ck: [0; 16],
-        ik: [0; 16],
+        rand: [0; aka::RAND_SIZE],
+        autn: [0; aka::AUTN_SIZE],
+        auts: [0; aka::AUTS_SIZE],
+        ck: [0; aka::CK_SIZE],
+        ik: [0; aka::IK_SIZE],
     }
 }
 
@@ -132,8 +132,8 @@ fn put_octets(t: Text, reply: Reply) -> Text {
     let auts = reply.auts;
     let ck = reply.ck;
     let ik = reply.ik;
-    let t = text::put_octets(text::put_pair(t, rand, autn), &auts);
-    text::put_pair(t, ck, ik)
+    let t = text::put_octets(text::put_two(t, rand, autn), &auts);
+    text::put_two(t, ck, ik)
 }
 
 fn put_vlr(t: Text, vlr: Vlr) -> Text {
