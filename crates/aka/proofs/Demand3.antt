@@ -12,8 +12,8 @@ use Rattle.aka.specs.Layout.{randSize, randAt, vectorAt}
 use Rattle.aka.specs.Functions.{Functions, Family, Lengths, Lawful}
 use Rattle.aka.specs.Sequence.{D, limit}
 use Rattle.aka.specs.Usim.{Usim, UsimAnswer, seqMs, syncFailure, unchanged}
-use Rattle.aka.specs.Auc.{AucAnswer, kept, reset, seqAt, indAt, batchFrom, inRange, startOf, macSRight, seqMsIn, makeVector}
-use Rattle.aka.specs.Auc.{after, resync}
+use Rattle.aka.specs.Auc.{AucAnswer, kept, reset, seqAt, indAt, batchFrom, inRange, keptOrReset, macSRight, seqMsIn, makeVector}
+use Rattle.aka.specs.Auc.{defaultCount, afterBatch, resync}
 use Rattle.aka.specs.Demand3.{Setting, Call, AnsweredCall, Each, Promised, Premise, Conclusion, Demand3, OtherNotAccepted}
 use Rattle.aka.specs.Demand3.{n, failure, renewal, answered, answersTo}
 use Rattle.aka.proofs.Places.{within}
@@ -21,7 +21,7 @@ use Rattle.aka.proofs.Tokens.{sqnOctets}
 use Rattle.aka.proofs.Failures.{autsOf, auts-is-long, auts-is-right, auts-has}
 use Rattle.aka.proofs.Verdicts.{valid-parts, lengths-known, verdict-lengths, sync-answer}
 use Rattle.aka.proofs.Batches.{count-le, length-rand, batch-vector}
-use Rattle.aka.proofs.Outcomes.{start-bounds, valid-iff, resync-sent}
+use Rattle.aka.proofs.Outcomes.{from-bounds, valid-iff, resync-given}
 use Rattle.aka.proofs.Rising.{Rising, Counted, all-calls}
 
 -- ---- each call
@@ -43,7 +43,7 @@ module _ (w : ℕ) (hw : w ≤ 48) (family : Family) (lawful : Lawful family) (s
   ms = seqMs (s .usim)
 
   abbrev st : ℕ
-  st = startOf (s .auc .seqhe) ms N
+  st = keptOrReset (s .auc .seqhe) ms N
 
   L : Lengths F
   L = lawful .lengths (s .usim .keys) (valid-parts w family (s .usim) (p .usim-valid) .0) (p .usim-keys)
@@ -80,18 +80,20 @@ module _ (w : ℕ) (hw : w ≤ 48) (family : Family) (lawful : Lawful family) (s
       ∙ auts-has w hw family (s .usim) L (p .usim-valid) (p .usim-places) (s .rand) rand-size
 
   bounds : (ms ≤ st) × (st + N ≤ ms + D) × (st + N ≤ limit w)
-  bounds = start-bounds (s .auc .seqhe) ms N (limit w) (omega (arith, count-le (s .count) (p .count))) (p .room-ms) (p .room-he)
+  bounds =
+      let few = count-le defaultCount (s .count) (omega arith) (p .count) in
+      from-bounds (s .auc .seqhe) ms N (limit w) (omega (arith, few)) (p .room-ms) (p .room-he)
 
   -- so it sends the batch counted from `st`
   renewal-is : renewal w family s ≡ record {
     outcome = cond (inRange (s .auc .seqhe) ms N) kept reset;
     n = N;
-    auc = after w (s .auc) st N;
+    auc = afterBatch w (s .auc) st N;
     batch = batchFrom w family (s .auc) st (s .rands) N;
   }
   renewal-is =
       ap (λ (a : UsimAnswer). resync w family (s .auc) (s .count) (s .rands) (s .buffer) (s .rand) (a .auts)) failure-is
-      ∙ resync-sent w family (s .auc) (s .count) (s .rands) (s .buffer)
+      ∙ resync-given w family (s .auc) (s .count) (s .rands) (s .buffer)
       (p .auc-valid) (p .count) (p .rands) (p .buffer) (p .unequal-rands) (s .rand) auts rand-size
       (auts-is-long w hw family (s .usim) L (p .usim-valid) (p .usim-places) (s .rand) rand-size)
       (rw (right, has) (or-true (inRange (s .auc .seqhe) ms N))) (rw has (bounds .2))

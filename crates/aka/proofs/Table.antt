@@ -13,8 +13,8 @@ use Rattle.aka.specs.Functions.{Functions, Family, Lengths, Lawful, dumm
 use Rattle.aka.specs.Sequence.{indices, limit, sqnOf, width}
 use Rattle.aka.specs.Usim.{Usim, UsimAnswer, accepted, macFailure, syncFailure, highest, lowestIndex, allWithin, validUsim, fresh}
 use Rattle.aka.specs.Usim.{macRight, makeAuts, sqnMs}
-use Rattle.aka.specs.Auc.{Auc, AucAnswer, given, kept, reset, refused, validAuc, inRange, startOf, seqMsIn, makeVector, seqAt}
-use Rattle.aka.specs.Auc.{after, batchFrom}
+use Rattle.aka.specs.Auc.{Auc, AucAnswer, given, kept, reset, refused, validAuc, inRange, keptOrReset, seqMsIn, makeVector, seqAt}
+use Rattle.aka.specs.Auc.{afterBatch, batchFrom}
 use Rattle.aka.specs.Demand3.{vectorSeq}
 use Rattle.aka.specs.Table.{Sample, Proper, Table, WorkedTable, five, new, used, usimWith, sqnWith, asked, askedWith, aucWith}
 use Rattle.aka.specs.Table.{ordered, resynced, firstSeq}
@@ -24,7 +24,7 @@ use Rattle.aka.proofs.Places.{place-le, within-iff}
 use Rattle.aka.proofs.Tokens.{length-sqn, autn-seq}
 use Rattle.aka.proofs.Verdicts.{lengths-right, mac-wrong, made-verdict, made-accepted}
 use Rattle.aka.proofs.Batches.{batch-vector, length-rand}
-use Rattle.aka.proofs.Outcomes.{order-given, order-past, resync-sent}
+use Rattle.aka.proofs.Outcomes.{order-given, order-past, resync-given}
 use Rattle.aka.proofs.Failures.{auts-is-long, auts-is-right, auts-has}
 
 module _ (family : Family) (lawful : Lawful family) (x : Sample) (p : Proper family x) where
@@ -120,19 +120,19 @@ module _ (family : Family) (lawful : Lawful family) (x : Sample) (p : Proper fam
   has : seqMsIn width F (x .rand) auts ≡ 100
   has = auts-has width (omega arith) family usim100 L valid100 (p .places100-size) (x .rand) (p .rand) ∙ p .places100-highest
 
-  module _ (he : ℕ) (h : he ≤ limit width) (room : startOf he 100 five + five ≤ limit width) where
+  module _ (he : ℕ) (h : he ≤ limit width) (room : keptOrReset he 100 five + five ≤ limit width) where
     -- SEQ_HE kept or reset
     abbrev st : ℕ
-    st = startOf he 100 five
+    st = keptOrReset he 100 five
 
     resync-row : resynced family x he ≡ record {
       outcome = cond (inRange he 100 five) kept reset;
       n = five;
-      auc = after width (auc he) st five;
+      auc = afterBatch width (auc he) st five;
       batch = batchFrom width family (auc he) st (x .rands) five;
     }
     resync-row =
-        resync-sent width family (auc he) five (x .rands) (x .buffer) (auc-valid he h) (omega arith)
+        resync-given width family (auc he) five (x .rands) (x .buffer) (auc-valid he h) (omega arith)
         (p .rands) (p .buffer) (p .unequal-rands) (x .rand) auts (p .rand)
         (auts-is-long width (omega arith) family usim100 L valid100 (p .places100-size) (x .rand) (p .rand))
         (rw (has, auts-is-right width (omega arith) family usim100 L valid100 (p .places100-size) (x .rand) (p .rand))

@@ -12,7 +12,7 @@ use Rattle.aka.specs.Layout.{Vector, randSize, amfSize, vectorSize, most
 use Rattle.aka.specs.Functions.{Functions, Family, Shaped, Lawful}
 use Rattle.aka.specs.Sequence.{sqnBits, indices, limit}
 use Rattle.aka.specs.Usim.{Usim, UsimAnswer, accepted, syncFailure, challenge, validUsim, lengthsRight, seqMs, seqIn}
-use Rattle.aka.specs.Auc.{Auc, AucAnswer, unequal, kept, reset, validAuc, resync, countOf, equalPair}
+use Rattle.aka.specs.Auc.{Auc, AucAnswer, unequal, kept, reset, validAuc, resync, resyncCount, equalPair}
 
 -- a USIM and a challenge to it; an AuC, and what is lent to its resynchronisation
 pub record Setting : Type 0 where
@@ -115,7 +115,7 @@ pub record Promised (w : ℕ) (F : Functions) (batch : Octets) (n seqhe : ℕ) (
 module _ (w : ℕ) (family : Family) (s : Setting) where
   -- the count that results
   abbrev pub n : ℕ
-  n = countOf (s .count)
+  n = resyncCount (s .count)
 
   -- the USIM's answer to the challenge
   abbrev pub failure : UsimAnswer

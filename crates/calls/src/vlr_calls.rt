@@ -80,7 +80,7 @@ fn record(c: Call, store: &[u8]) -> Vlr {
     Vlr {
         state: state_of(call::number(c, 0)),
         held: call::octet(c, 1),
-        places,
+        queue: places,
         out,
     }
 }
@@ -139,7 +139,7 @@ fn put_octets(t: Text, reply: Reply) -> Text {
 fn put_vlr(t: Text, vlr: Vlr) -> Text {
     let state = vlr.state;
     let out = vlr.out;
-    let places = vlr.places;
+    let places = vlr.queue;
     let t = text::put_number(t, number_of(state));
     let t = text::put_octets(text::put_number(t, vlr.held as u64), &out);
     put_places(t, &places)

@@ -9,7 +9,7 @@ use Rattle.functions.specs.Sets.{sets}
 use Rattle.functions.specs.Challenge.{keysOf}
 use Rattle.functions.proofs.Protocol.{demand3-holds}
 use Rattle.aka.specs.Functions.{Functions}
-use Rattle.aka.specs.Auc.{AucAnswer, kept, reset, countOf, resync}
+use Rattle.aka.specs.Auc.{AucAnswer, kept, reset, resyncCount, resync}
 use Rattle.aka.specs.Usim as usim
 use Rattle.aka.specs.Demand3 as aka
 use Rattle.aka.specs.Sequence.{width}
@@ -40,15 +40,15 @@ pub record Of (F : Functions) (n : ℕ) (failure : usim.UsimAnswer) (renewal : A
       → aka.Each (aka.Promised width F (renewal .batch) n (renewal .auc .seqhe)) (aka.answersTo width sets (renewal .batch) n (failure .usim) none calls)
 
 of-definitions : (s : Setting) → aka.Premise width sets (settingOf s)
-    → Of (sets .under (keysOf (s .usim .keys))) (countOf (s .count)) (aka.failure width sets (settingOf s)) (aka.renewal width sets (settingOf s))
+    → Of (sets .under (keysOf (s .usim .keys))) (resyncCount (s .count)) (aka.failure width sets (settingOf s)) (aka.renewal width sets (settingOf s))
 of-definitions s p = let c = demand3-holds (settingOf s) p in record { sent = c .sent; all = c .all }
 
 -- and so of the code's own answers
 of-code : (s : Setting) → Ran s → aka.Premise width sets (settingOf s)
-    → Of (sets .under (keysOf (s .usim .keys))) (countOf (s .count)) (cardViews.answerOf (s .failure)) (centreViews.answerOf (s .renewal) (s .batch))
+    → Of (sets .under (keysOf (s .usim .keys))) (resyncCount (s .count)) (cardViews.answerOf (s .failure)) (centreViews.answerOf (s .renewal) (s .batch))
 of-code s ran p =
     let F = sets .under (keysOf (s .usim .keys)) in
-    let n = countOf (s .count) in
+    let n = resyncCount (s .count) in
     let f = cardViews.answerOf (s .failure) in
     subst (λ (r : AucAnswer). Of F n f r) (sym (ran .renewal))
     (subst
@@ -58,7 +58,7 @@ of-code s ran p =
 pub running : Demand3
 running s ran p =
     let c = of-code s ran p in
-    let n = countOf (s .count) in
+    let n = resyncCount (s .count) in
     let Holds = aka.Promised width (sets .under (keysOf (s .usim .keys))) (s .batch) n (s .renewal .auc .seqhe) in
     record {
       sent = c .sent;

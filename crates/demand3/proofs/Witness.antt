@@ -12,7 +12,7 @@ use Rattle.functions.specs.SampleRun.{k, z, amf, autn, auts}
 use Rattle.functions.specs.declared.Keys.{Keys}
 use Rattle.aka.specs.Layout.{writeAutn, readAutn, writeAuts, readAuts, writeVector, readVector, joined}
 use Rattle.aka.specs.Usim.{challenge, verdictOn, judgement, answerWith, validUsim, lengthsRight, macRight, fresh, highest, lowestIndex, allWithin, makeAuts}
-use Rattle.aka.specs.Auc.{validAuc, makeAutn, makeVector, batchFrom, pairWith, pairFrom, lentFor, lentAll, unlessRefused, unlessPast, inRange, macSRight, resyncOutcome, resync}
+use Rattle.aka.specs.Auc.{validAuc, makeAutn, makeVector, batchFrom, pairWith, pairFrom, lentFor, lentAuts, unlessRefused, unlessPast, inRange, macSRight, autsOutcome, resyncOutcome, resync}
 use Rattle.aka.specs.Auc as auc
 use Rattle.aka.specs.Demand3 as aka
 use Rattle.aka.specs.Sequence.{width}
@@ -63,7 +63,8 @@ lost = record {
 }
 
 ran : Ran lost
-unfolding sets testOutputs baseOf outputs outputsOf challenge verdictOn judgement answerWith validUsim lengthsRight macRight fresh highest lowestIndex allWithin makeAuts makeAutn writeAutn readAutn writeAuts readAuts xor equal digits spelt pairFrom pairWith validAuc auc.answerWith lentFor lentAll unlessRefused unlessPast inRange macSRight resyncOutcome resync batchFrom makeVector writeVector readVector joined turnLeft
+unfolding sets testOutputs baseOf outputs outputsOf challenge verdictOn judgement answerWith validUsim lengthsRight macRight fresh highest lowestIndex allWithin makeAuts makeAutn writeAutn readAutn writeAuts readAuts xor equal digits spelt pairFrom pairWith validAuc auc.answerWith lentFor lentAuts unlessRefused unlessPast inRange macSRight autsOutcome resyncOutcome resync
+    batchFrom makeVector writeVector readVector joined turnLeft
 ran = record { failure = refl; renewal = refl }
 
 premise : aka.Premise width sets (settingOf lost)

@@ -8,7 +8,7 @@ use mathlib.Core.Path.{_≡_}
 use Rattle.octets.specs.Octets.{Octets}
 use Rattle.functions.specs.Sets.{sets}
 use Rattle.functions.specs.Challenge.{keysOf}
-use Rattle.aka.specs.Auc.{kept, reset, countOf, resync}
+use Rattle.aka.specs.Auc.{kept, reset, resyncCount, resync}
 use Rattle.aka.specs.Usim.{challenge}
 use Rattle.aka.specs.Demand3 as aka
 use Rattle.aka.specs.Sequence.{width}
@@ -86,7 +86,7 @@ module _ (batch : Octets) (n : ℕ) where
 
 module _ (s : Setting) where
   abbrev pub answered : List Call → List aka.AnsweredCall
-  answered calls = counted (s .batch) (countOf (s .count)) none calls
+  answered calls = counted (s .batch) (resyncCount (s .count)) none calls
 
   pub record Conclusion : Type 0 where
     -- the centre sends a batch
@@ -96,7 +96,7 @@ module _ (s : Setting) where
     -- `Demand3.Promised` says
     pub all : (calls : List Call) → Chain (s .failure .usim) calls → aka.Each aka.OtherNotAccepted (answered calls)
         → aka.Each
-        (aka.Promised width (sets .under (keysOf (s .usim .keys))) (s .batch) (countOf (s .count)) (s .renewal .auc .seqhe))
+        (aka.Promised width (sets .under (keysOf (s .usim .keys))) (s .batch) (resyncCount (s .count)) (s .renewal .auc .seqhe))
         (answered calls)
 
 -- `aka.Premise`: valid records of the same keys, count and lent parts as named, room, and a synchronisation failure

@@ -15,7 +15,7 @@ use Rattle.aka.specs.Sequence.{sqnOf, width}
 use Rattle.aka.specs.Usim.{Usim, UsimAnswer, accepted, macFailure, syncFailure, refused, challenge, verdictOn, judgement, answerWith}
 use Rattle.aka.specs.Usim.{validUsim, lengthsRight, macRight, fresh, highest, lowestIndex, allWithin, makeAuts}
 use Rattle.aka.specs.Auc.{unequal, kept, reset, validAuc, makeAutn, makeVector, batchFrom, pairWith, pairFrom, equalPair, lentFor}
-use Rattle.aka.specs.Auc.{lentAll, unlessRefused, unlessPast, inRange, macSRight, resyncOutcome, resync}
+use Rattle.aka.specs.Auc.{lentAuts, unlessRefused, unlessPast, inRange, macSRight, autsOutcome, resyncOutcome, resync}
 use Rattle.aka.specs.Auc as auc
 use Rattle.aka.specs.Demand3.{Setting, Call, AnsweredCall, Each, OtherNotAccepted, Premise, Conclusion, carries, placeFrom}
 use Rattle.aka.specs.Demand3.{answersTo, answered, failure, renewal}
@@ -117,7 +117,8 @@ not-refused e = zero-not-one (cc)
 pub computed : Computed
 unfolding sets testOutputs baseOf outputs outputsOf challenge verdictOn judgement answerWith validUsim lengthsRight macRight fresh highest
     lowestIndex allWithin makeAuts makeAutn writeAutn readAutn writeAuts readAuts xor equal digits spelt pairFrom pairWith validAuc
-    auc.answerWith lentFor lentAll unlessRefused unlessPast inRange macSRight resyncOutcome resync batchFrom makeVector writeVector
+    auc.answerWith lentFor lentAuts unlessRefused unlessPast inRange macSRight autsOutcome resyncOutcome resync
+    batchFrom makeVector writeVector
     readVector joined turnLeft answersTo placeFrom carries
 computed = record {
   autn = refl;

@@ -30,12 +30,12 @@ fn mac_right(
 ) -> bool
     requires { ⌜ IsRoundTable (now table) ⌝ }
     ensures { λ r. ⌜
-        ((keys : KeysOf) (rand : Octets) → Started keys rand (now (schedule .entry)) c → sqn ≡ sqnIn (sets .under keys) rand autn
+        ((keys : KeysOf) (rand : Octets) → Prepared keys rand (now (schedule .entry)) c → sqn ≡ sqnIn (sets .under keys) rand autn
         → r ≡ macRight (sets .under keys) rand autn)
         ⌝ }
 {
     let mac = octets::eight(autn, aka::MAC_AT);
-    let expected = mac_functions::f1(table, schedule, c, sqn, tokens::amf_in(autn));
+    let expected = functions::f1(table, schedule, c, sqn, tokens::amf_in(autn));
     tokens::equal_without_early_end(mac, expected)
 }
 
@@ -43,14 +43,14 @@ fn mac_right(
 fn auts(table: &[u32; 256], schedule: &[u32; 44], c: Challenge, usim: Usim) -> [u8; aka::AUTS_SIZE]
     requires { ⌜ IsRoundTable (now table) × (validUsim width sets (usimOf usim) ≡ true) ⌝ }
     ensures { λ r. ⌜
-        ((keys : KeysOf) (rand : Octets) → Started keys rand (now (schedule .entry)) c
+        ((keys : KeysOf) (rand : Octets) → Prepared keys rand (now (schedule .entry)) c
         → r ≡ makeAuts (sets .under keys) (encode sqnSize (sqnMs width (usimOf usim))) dummyAmf rand)
         ⌝ }
 {
     let places = usim.places;
     let sqn = tokens::sqn_octets(places::sqn_ms(places));
     let ak = functions::f5s(table, schedule, c);
-    let mac = mac_functions::f1s(table, schedule, c, sqn, [0; aka::AMF_SIZE]);
+    let mac = functions::f1s(table, schedule, c, sqn, [0; aka::AMF_SIZE]);
     tokens::auts(sqn, ak, mac)
 }
 
@@ -116,7 +116,7 @@ fn judge(
 ) -> Answer
     requires { ⌜ IsRoundTable (now table) × (validUsim width sets (usimOf usim) ≡ true) ⌝ }
     ensures { λ r. ⌜
-        ((rand : Octets) → Started (keysOf (usim .keys)) rand (now (schedule .entry)) c
+        ((rand : Octets) → Prepared (keysOf (usim .keys)) rand (now (schedule .entry)) c
         → AnswerFor (usimOf usim) rand autn (judgement width sets (usimOf usim) rand autn) r)
         ⌝ }
 {
@@ -138,7 +138,7 @@ fn authenticate(usim: Usim, rand: [u8; aka::RAND_SIZE], autn: [u8; aka::AUTN_SIZ
     let keys = usim.keys;
     let table = aes::round_table();
     let schedule = functions::schedule(keys);
-    let c = functions::start(&table, &schedule, keys, rand);
+    let c = functions::prepare(&table, &schedule, keys, rand);
     judge(&table, &schedule, c, usim, autn)
 }
 

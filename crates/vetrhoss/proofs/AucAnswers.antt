@@ -5,19 +5,19 @@ use mathlib.Core.Path.{_≡_, refl, sym, ap, _∙_}
 use lib.ListN.{length}
 use Rattle.octets.specs.Octets.{Octets}
 use Rattle.functions.specs.Sets.{sets}
-use Rattle.aka.specs.Auc.{AucAnswer, validAuc}
+use Rattle.aka.specs.Auc.{Auc, AucAnswer, validAuc}
 use Rattle.aka.specs.Sequence.{width}
-use Rattle.auc_image.specs.Image.{Read, image as aucImage, imageSize, readAnswer}
+use Rattle.auc_image.specs.Image.{Read, image as aucImage, imageSize, readAnswer, format}
 use Rattle.auc_image.proofs.RoundTrips.{round-trips}
 use Rattle.vetrhoss.specs.Results.{outcomeResult}
 use Rattle.vetrhoss.specs.Interface.{aucImageAfter, aucReturns}
 
 -- an image that was read has its length and a valid record
-pub read-valid : (x : Octets) (r : Read) → r ≡ readAnswer width sets x → r .refusal ≡ 0
-    → (length x ≡ imageSize) × (validAuc width sets (r .auc) ≡ true)
+pub read-valid : (x : Octets) (r : Read Auc) → r ≡ readAnswer (format width sets) x → r .refusal ≡ 0
+    → (length x ≡ imageSize) × (validAuc width sets (r .contents) ≡ true)
 read-valid x r e none =
-    let sound = round-trips .sound x (sym (ap (λ (y : Read). y .refusal) e) ∙ none) in
-    (sound .0, ap (λ (y : Read). validAuc width sets (y .auc)) e ∙ sound .1)
+    let sound = round-trips .sound x (sym (ap (λ (y : Read Auc). y .refusal) e) ∙ none) in
+    (sound .0, ap (λ (y : Read Auc). validAuc width sets (y .contents)) e ∙ sound .1)
 
 -- the code's answer is the one due
 pub handed-on : (image : Octets) (a due : AucAnswer) {result : ℕ} {next : Octets} → a ≡ due

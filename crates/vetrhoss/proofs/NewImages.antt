@@ -9,7 +9,7 @@ use Rattle.functions.specs.Sets.{sets}
 use Rattle.aka.specs.Usim.{Usim, validUsim}
 use Rattle.aka.specs.Auc.{Auc, validAuc}
 use Rattle.aka.specs.Sequence.{width}
-use Rattle.image_parts.specs.Written.{Written}
+use Rattle.images.specs.Images.{Written}
 use Rattle.usim_image.specs.Image as usim
 use Rattle.auc_image.specs.Image as auc
 use Rattle.vetrhoss.specs.Interface.{Returned, done, refused}
@@ -28,11 +28,11 @@ by-size true buffer image = refl
 by-size false buffer image = refl
 
 pub usim-written : (card : Usim) (buffer : Octets) → validUsim width sets card ≡ true
-    → returnedOf (usim.writeAnswer width sets card buffer) ≡ sized (usim.imageSize width) buffer (usim.image width card)
+    → returnedOf (usim.writeAnswer (usim.format width sets) card buffer) ≡ sized (usim.imageSize width) buffer (usim.image width card)
 unfolding usim.writeAnswer
 usim-written card buffer valid = rw valid (by-size (eqb (length buffer) (usim.imageSize width)) buffer _)
 
 pub auc-written : (centre : Auc) (buffer : Octets) → validAuc width sets centre ≡ true
-    → returnedOf (auc.writeAnswer width sets centre buffer) ≡ sized auc.imageSize buffer (auc.image width centre)
+    → returnedOf (auc.writeAnswer (auc.format width sets) centre buffer) ≡ sized auc.imageSize buffer (auc.image width centre)
 unfolding auc.writeAnswer
 auc-written centre buffer valid = rw valid (by-size (eqb (length buffer) auc.imageSize) buffer _)

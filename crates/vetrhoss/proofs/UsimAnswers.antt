@@ -21,17 +21,17 @@ use Rattle.usim_record.specs.declared.Verdict as declared
 use Rattle.usim_record.specs.declared.Verdict.the-variants.{Accepted, Sync, Mac, Refused}
 use Rattle.usim_record.specs.Views.{usimOf, verdictOf, sqnGiven, answerOf, sqnDue}
 use Rattle.usim_record.proofs.Verdict.{the-type}
-use Rattle.usim_image.specs.Image.{Read, image as usimImage, imageSize, readAnswer}
+use Rattle.usim_image.specs.Image.{Read, image as usimImage, imageSize, readAnswer, format}
 use Rattle.usim_image.proofs.RoundTrips.{round-trips}
 use Rattle.vetrhoss.specs.Results.{verdictResult}
 use Rattle.vetrhoss.specs.Interface.{Returned, UsimOctets, usimImageAfter, bufferAfter, usimReturns}
 
 -- an image that was read has its length and a valid record
-pub read-valid : (x : Octets) (r : Read) → r ≡ readAnswer width sets x → r .refusal ≡ 0
-    → (length x ≡ imageSize width) × (validUsim width sets (r .usim) ≡ true)
+pub read-valid : (x : Octets) (r : Read Usim) → r ≡ readAnswer (format width sets) x → r .refusal ≡ 0
+    → (length x ≡ imageSize width) × (validUsim width sets (r .contents) ≡ true)
 read-valid x r e none =
-    let sound = round-trips .sound x (sym (ap (λ (y : Read). y .refusal) e) ∙ none) in
-    (sound .0, ap (λ (y : Read). validUsim width sets (y .usim)) e ∙ sound .1)
+    let sound = round-trips .sound x (sym (ap (λ (y : Read Usim). y .refusal) e) ∙ none) in
+    (sound .0, ap (λ (y : Read Usim). validUsim width sets (y .contents)) e ∙ sound .1)
 
 -- ---- what is returned, as the code has it
 

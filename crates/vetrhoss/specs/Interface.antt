@@ -102,7 +102,7 @@ usimReturns a sqn lent = record {
 -- a challenge of the card that an image holds
 unfoldable pub challengeCall : (lent : UsimOctets) (rand autn : Octets) → Returned UsimOctets
 challengeCall lent rand autn =
-    let read = usim.readAnswer width sets (lent .image) in
+    let read = usim.readAnswer (usim.format width sets) (lent .image) in
     let answer = card.challenge width sets (read .usim) rand autn in
     cond (not (eqb (read .refusal) 0)) (refused (read .refusal) lent)
     (cond (not (answerSized (lent .res) (lent .ck) (lent .ik) (lent .auts))) (refused 3 lent)
@@ -133,7 +133,7 @@ aucReturns a image = record {
 -- the record that an image holds is asked
 unfoldable pub onImage : (lent : AucOctets) → (centre.Auc → centre.AucAnswer) → Returned AucOctets
 onImage lent ask =
-    let read = auc.readAnswer width sets (lent .image) in
+    let read = auc.readAnswer (auc.format width sets) (lent .image) in
     cond (not (eqb (read .refusal) 0)) (refused (read .refusal) lent)
     (aucReturns (ask (read .auc)) (lent .image))
 

@@ -7,6 +7,7 @@ mod results;
 mod usim_answer;
 
 use usim::Verdict;
+use auc::Offset;
 ghost use mathlib.Core.Path.{_≡_};
 ghost use Rattle.vetrhoss.specs.Interface.{opcCall, newUsimCall, newAucCall, challengeCall, orderCall, resyncCall, vectorAtCall};
 
@@ -175,9 +176,9 @@ pub extern "C" fn vetrhoss_resynchronise(
 pub extern "C" fn vetrhoss_vector_at(batch: &[u8], k: u64) -> u64
     ensures { λ r. ⌜ r ≡ vectorAtCall (now (batch .entry)) k ⌝ }
 {
-    let size = lent_parts::vector_at(batch, k).len();
-    if size == 0 {
+    let offset = auc::offset_of(batch.len(), k);
+    let Offset::At(at) = offset else {
         return 3;
-    }
-    results::both(0, aka::VECTOR_SIZE as u64 * k)
+    };
+    256 * (at as u64)
 }

@@ -3,11 +3,11 @@ use borrow.Author.Needs.{needs}
 use Rattle.usim.proofs.authenticate.Statement.{statement}
 use Rattle.usim.proofs.authenticate.Tie as tie
 
-abbrev started : tie.After-judge → tie.After-start
+abbrev started : tie.After-judge → tie.After-prepare
 started c = c .before .before .before
 
 returns : tie.Need-returns
-returns c = c .judge .ensures _ (started c .start .ensures)
+returns c = c .judge .ensures _ (started c .prepare .ensures)
 
 pub authenticate-spec : {M : Type 1} → statement M
 authenticate-spec =

@@ -34,8 +34,8 @@ returns c = λ keys rand s.
     made .sqn-octets .ensures ∙ ap (encode sqnSize) (made .before .sqn-ms .ensures) in
     c .auts .ensures
     ∙ ap₂ (λ (x y : Octets). writeAuts (record { concealed = x; mac = y }))
-    (ap₂ xor sqn (concealed .f5s .ensures keys rand s))
-    (signed .f1s .ensures keys rand s ∙ ap (λ (x : Octets). sets .under keys .f1* x rand dummyAmf) sqn)
+    (ap₂ xor sqn (concealed .f5s .ensures ∙ gives s .f5*))
+    (signed .f1s .ensures ∙ gives s .f1* _ _ ∙ ap (λ (x : Octets). sets .under keys .f1* x rand dummyAmf) sqn)
 
 pub auts-spec : {M : Type 1} → statement M
 auts-spec =

@@ -11,6 +11,7 @@ use Rattle.aka.specs.Usim.{macFailure, sqnIn, macRight, judgement, answerWith}
 use Rattle.aka.specs.Sequence.{width}
 use Rattle.usim_record.specs.declared.Verdict.the-variants.{Mac}
 use Rattle.usim_record.specs.Views.{usimOf}
+use Rattle.functions.proofs.Outputs.{gives}
 use Rattle.usim.proofs.Answered.{unchanged-for}
 use borrow.Author.Needs.{needs}
 use Rattle.usim.proofs.judge.Statement.{statement}
@@ -33,11 +34,11 @@ module _ (tested : tie.After-mac-right) (rand : Octets) where
   abbrev autn : Octets
   autn = start .args .autn
 
-  module _ (s : Started keys rand (start .args .schedule .now) (start .args .c)) where
+  module _ (s : Prepared keys rand (start .args .schedule .now) (start .args .c)) where
     sqn-is : tested .before .sqn-in .result ≡ sqnIn (sets .under keys) rand autn
     sqn-is =
         tested .before .sqn-in .ensures
-        ∙ ap (xor (readAutn autn .concealed)) (computed tested .f2-f5 .ensures keys rand s .1)
+        ∙ ap (xor (readAutn autn .concealed)) (computed tested .f2-f5 .ensures .1 ∙ gives s .f5)
 
     mac-is : {b : Bool} → tested .mac-right .result ≡ b → macRight (sets .under keys) rand autn ≡ b
     mac-is e = sym (tested .mac-right .ensures keys rand s sqn-is) ∙ e
@@ -63,7 +64,7 @@ returns-2 c = λ rand s.
       mac = mac-is tested rand s (not-false _ (right .if1 .left));
       sqn = numbered .sqn-number .ensures .0 ∙ ap decode (sqn-is tested rand s);
       fits = numbered .sqn-number .ensures .1;
-      res = computed tested .f2-f5 .ensures (keys tested rand) rand s .0;
+      res = computed tested .f2-f5 .ensures .0 ∙ gives s .f2;
     })
 
 pub judge-spec : {M : Type 1} → statement M

@@ -16,7 +16,7 @@ returns c = λ keys rand s e.
     let read = made .before in
     c .equal-without-early-end .ensures
     ∙ ap₂ equal (read .before .eight .ensures)
-    (made .f1 .ensures keys rand s ∙ ap₂ (λ (sqn amf : Octets). sets .under keys .f1 sqn rand amf) e (read .amf-in .ensures))
+    (made .f1 .ensures ∙ gives s .f1 _ _ ∙ ap₂ (λ (sqn amf : Octets). sets .under keys .f1 sqn rand amf) e (read .amf-in .ensures))
 
 pub mac-right-spec : {M : Type 1} → statement M
 mac-right-spec =

@@ -8,7 +8,7 @@ use Rattle.functions.proofs.Protocol.{auc-holds}
 use Rattle.aka.specs.Layout.{amfSize}
 use Rattle.aka.specs.Auc.{Auc, newAuc}
 use Rattle.aka.specs.Sequence.{width}
-use Rattle.auc_image.specs.Image.{writeAnswer}
+use Rattle.auc_image.specs.Image.{writeAnswer, format}
 use Rattle.vetrhoss.specs.Interface.{areKeys, newAucCall}
 use Rattle.vetrhoss.proofs.NewImages.{returnedOf, auc-written}
 use borrow.Author.Needs.{needs}
@@ -65,7 +65,7 @@ returns-4 c =
     rw (known set, keys (sized amf), eq-eqb _ amfSize two)
     (ap returnedOf
     (written c .write .ensures
-    ∙ ap (λ (a : Auc). writeAnswer width sets a (args .image .now))
+    ∙ ap (λ (a : Auc). writeAnswer (format width sets) a (args .image .now))
     (new .new .ensures ∙ ap₂ newAuc (from .keys-from .ensures) (listed-all (args .amf .now) amfSize two)))
     ∙ auc-written centre (args .image .now) (auc-holds .new-valid _ _ (known set)))
 

@@ -6,7 +6,7 @@ use Rattle.functions.specs.Sets.{sets}
 use Rattle.functions.proofs.Protocol.{usim-holds}
 use Rattle.aka.specs.Usim.{Usim, newUsim}
 use Rattle.aka.specs.Sequence.{width}
-use Rattle.usim_image.specs.Image.{writeAnswer}
+use Rattle.usim_image.specs.Image.{writeAnswer, format}
 use Rattle.vetrhoss.specs.Interface.{areKeys, newUsimCall}
 use Rattle.vetrhoss.proofs.NewImages.{returnedOf, usim-written}
 use borrow.Author.Needs.{needs}
@@ -54,7 +54,7 @@ returns-3 c =
     rw (known set, keys sizes)
     (ap returnedOf
     (written c .write .ensures
-    ∙ ap (λ (u : Usim). writeAnswer width sets u (args .image .now))
+    ∙ ap (λ (u : Usim). writeAnswer (format width sets) u (args .image .now))
     (new .new .ensures ∙ ap (newUsim width) (new .before .keys-from .ensures)))
     ∙ usim-written card (args .image .now) (usim-holds .new-valid _ (known set)))
 

@@ -1,39 +1,49 @@
--- `vetrhoss_vector_at` is `vectorAtCall`. Assumes nothing.
-use Prim.Native.Nat.{_<_}
-use mathlib.Core.Bool.{true}
-use mathlib.Core.Path.{_≡_, refl, sym, ap, _∙_}
+-- `vetrhoss_vector_at` is `vectorAtCall`: the offset that was found, as a result. Assumes nothing.
+use Prim.Native.Nat.{ℕ}
+use mathlib.Core.Option.{Option, some}
+use mathlib.Core.Path.{_≡_, sym, ap, _∙_}
 use native.Mathlib.Omega.{arith}
 use lib.ListN.{length}
-use Rattle.octets.specs.Octets.{Octets}
-use Rattle.aka.specs.Layout.{mostVectors, isPlace}
-use Rattle.vetrhoss.specs.Interface.{vectorAtCall}
-use Rattle.vetrhoss.proofs.VectorPlaces.{no-part, part-at}
+use Rattle.aka.specs.Layout.{vectorOffset}
+use Rattle.aka.proofs.Offsets.{Inside, offset-inside}
+use Rattle.batches.specs.Views.{offsetIn}
+use Rattle.vetrhoss.specs.Interface.{offsetResult, vectorAtCall}
 use borrow.Author.Needs.{needs}
 use Rattle.vetrhoss.proofs.vetrhoss_vector_at.Statement.{statement}
 use Rattle.vetrhoss.proofs.vetrhoss_vector_at.Tie as tie
 
-abbrev entry : tie.Else1 → tie.Start
-entry c = c .before .before .before
+abbrev entry : tie.After-offset-of → tie.Start
+entry c = c .before .before
 
--- what is handed back is not empty
-place : (c : tie.Else1) → (isPlace (entry c .args .batch .now) (entry c .args .k) ≡ true) × (entry c .args .k < mostVectors)
-place c = part-at _ _ (λ e. c .if1 .left (ap (λ (x : Octets). length x) (c .before .vector-at .ensures) ∙ e))
+abbrev called : tie.After-known-told → tie.After-offset-of
+called c = c .before .before .before
+
+abbrev offset : tie.After-known-told → ℕ
+offset c = c .before .offset .given .0 .0
+
+found : (c : tie.After-known-told) →
+    let args = entry (called c) .args in
+    vectorOffset (length (args .batch .now)) (args .k) ≡ some (offset c)
+found c = sym (called c .offset-of .ensures) ∙ ap offsetIn (c .before .offset .given .1)
+
+inside : (c : tie.After-known-told) →
+    let args = entry (called c) .args in
+    Inside (length (args .batch .now)) (args .k) (offset c)
+inside c = offset-inside _ _ (offset c) (found c)
 
 returns : tie.Need-returns
 unfolding vectorAtCall
 returns c =
-    let none : length (c .before .vector-at .result .now) ≡ 0 = c .if1 .taken in
-    rw (no-part _ _ (ap (λ (x : Octets). length x) (sym (c .before .vector-at .ensures)) ∙ none)) refl
+    let past = c .before .before in
+    ap offsetResult (sym (ap offsetIn (c .enum-told .given .1)) ∙ past .offset-of .ensures)
 
-mul-both : tie.Need-mul-both
-mul-both c = omega (arith, place c .1)
-
-both-requires : tie.Need-both-requires
-both-requires c κs = omega (arith, place c .1)
+mul-result : tie.Need-mul-result
+mul-result c = omega (arith, inside c .at, inside c .place)
 
 returns-2 : tie.Need-returns-2
 unfolding vectorAtCall
-returns-2 c = c .both .ensures ∙ rw (place (c .before) .0) refl
+returns-2 c = rw (found c) (omega arith)
 
 pub vetrhoss-vector-at-spec : {M : Type 1} → statement M
-vetrhoss-vector-at-spec = tie.close (tie.spec (λ c κs. search needs) returns mul-both both-requires returns-2)
+vetrhoss-vector-at-spec =
+    tie.close (tie.spec (λ c κs. search needs) (λ c. search needs) (λ c. search needs) returns mul-result returns-2)

@@ -1,7 +1,7 @@
 -- `write_next` writes the image of a valid record. Assumes nothing.
 use mathlib.Core.Path.{refl, ap, _∙_}
 use borrow.Author.Tests.{eq-eqb}
-use Rattle.image_parts.specs.Written.{Written}
+use Rattle.images.specs.Images.{Written}
 use Rattle.auc_image.specs.Image.{imageSize, writeAnswer}
 use borrow.Author.Needs.{needs}
 use Rattle.vetrhoss.proofs.auc_answer.write_next.Statement.{statement}

@@ -2,7 +2,7 @@
 use mathlib.Core.Path.{refl, ap, _∙_}
 use borrow.Author.Tests.{eq-eqb}
 use Rattle.aka.specs.Sequence.{width}
-use Rattle.image_parts.specs.Written.{Written}
+use Rattle.images.specs.Images.{Written}
 use Rattle.usim_image.specs.Image.{imageSize, writeAnswer}
 use borrow.Author.Needs.{needs}
 use Rattle.vetrhoss.proofs.usim_answer.write_next.Statement.{statement}
