@@ -1,41 +1,45 @@
-// The bench's ask: the node's Ask, the card's challenge, then what the verdict asks for.
-use bench_replies::Reply;
-use bench_state::Acted;
-use bench_state::Bench;
+// An ask at the desk: the node's Ask, the card's challenge, then what the verdict asks for.
+mod reports;
+
+use bench_desk::Desk;
+use bench_desk::DeskAnswer;
 use usim::Verdict;
 ghost use mathlib.Core.Path.{_≡_};
 ghost use Rattle.vlr_record.specs.Views.{answerOf};
-ghost use Rattle.bench_state.specs.Bench.{askAnswer, cardAnswer, onVerdict, ask as askOf};
-ghost use Rattle.bench_state.specs.Views.{benchOf, actedOf};
+ghost use Rattle.bench_desk.specs.Desk.{ask as askOf, askAnswer, cardAnswer, onVerdict, sqnAsked};
+ghost use Rattle.bench_desk.specs.Views.{deskAnswerOf, deskOf};
 
 // The card's challenge, with the RAND and AUTN that the node asked.
-fn challenged(bench: Bench, request: vlr::Reply) -> Acted
-    requires { ⌜ answerOf request ≡ askAnswer (benchOf bench) ⌝ }
-    ensures { λ r. ⌜ actedOf r ≡ onVerdict (benchOf bench) (cardAnswer (benchOf bench) .verdict) ⌝ }
+fn challenge(desk: Desk, request: vlr::Reply) -> DeskAnswer
+    requires { ⌜ answerOf request ≡ askAnswer (deskOf desk) ⌝ }
+    ensures { λ r. ⌜
+        deskAnswerOf r
+        ≡ onVerdict (deskOf desk) (askAnswer (deskOf desk) .vlr) (cardAnswer (deskOf desk)) (sqnAsked (deskOf desk))
+        (cardAnswer (deskOf desk) .verdict)
+        ⌝ }
 {
-    let usim = bench.usim;
+    let usim = desk.usim;
     let vlr = request.vlr;
     let rand = request.rand;
     let autn = request.autn;
     let answer = usim::challenge(usim, &rand, &autn);
     let verdict = answer.verdict;
-    let auts = answer.auts;
     let Verdict::Accepted(sqn) = verdict else {
-        return bench_verdicts::failed(bench, vlr, verdict, auts);
+        return reports::failure(desk, vlr, answer);
     };
-    bench_verdicts::passed(bench, vlr, answer, sqn)
+    reports::response(desk, vlr, answer, sqn)
 }
 
 // One authentication of the card by the node.
-pub fn ask(bench: Bench) -> Acted
-    ensures { λ r. ⌜ actedOf r ≡ askOf (benchOf bench) ⌝ }
+pub fn ask(desk: Desk) -> DeskAnswer
+    ensures { λ r. ⌜ deskAnswerOf r ≡ askOf (deskOf desk) ⌝ }
 {
-    let vlr = bench.vlr;
+    let vlr = desk.vlr;
     let request = vlr::ask(vlr);
     let outcome = request.outcome;
-    let number = bench_state::node_refusal(outcome);
+    let number = bench_desk::node_refusal(outcome);
     if number != 0 {
-        return bench_state::stays(bench, Reply::Refused(number as u64));
+        return bench_desk::refused(desk, number);
     }
-    challenged(bench, request)
+    challenge(desk, request)
 }

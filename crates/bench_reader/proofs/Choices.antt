@@ -7,7 +7,8 @@ use native.Mathlib.Omega.{arith}
 use lib.Dec.{eqb}
 use lib.ListN.{length}
 use Rattle.fields.specs.Fields.{begins}
-use Rattle.bench_lines.specs.Commands.{badLine, order, ask, resync, show, alone, keyWord, orderWord, resyncWord, putWord, askWord, showWord, isWord, readKey, readBatch, readPut, readForm}
+use Rattle.bench_reader.specs.Commands.{badLine, order, ask, resync, show, alone, keyWord, orderWord, resyncWord, putWord}
+use Rattle.bench_reader.specs.Commands.{askWord, showWord, isWord, readKey, readBatch, readPut, readForm}
 
 -- a line is at least as long as the word that it begins with
 pub begins-length : (word line : List ℕ) → begins word line ≡ true → length word ≤ length line
@@ -22,12 +23,12 @@ module _ (line : List ℕ) where
   by-key a = rw a
 
   module _ (a : begins keyWord line ≡ false) where
-    pub by-order : begins orderWord line ≡ true → readBatch order 6 line ≡ readForm line
+    pub by-order : begins orderWord line ≡ true → readBatch order (length orderWord) line ≡ readForm line
     unfolding readForm
     by-order b = rw (a, b)
 
     module _ (b : begins orderWord line ≡ false) where
-      pub by-resync : begins resyncWord line ≡ true → readBatch resync 7 line ≡ readForm line
+      pub by-resync : begins resyncWord line ≡ true → readBatch resync (length resyncWord) line ≡ readForm line
       unfolding readForm
       by-resync d = rw (a, b, d)
 

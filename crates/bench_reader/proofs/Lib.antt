@@ -1,1 +1,5 @@
 pub mod Choices
+pub mod Rands
+pub mod KeyForms
+pub mod BatchForms
+pub mod PutForms

@@ -1,1 +1,1 @@
-pub mod Supplied
+pub mod Batches

@@ -5,9 +5,9 @@ use mathlib.Core.Path.{_≡_}
 use native.Mathlib.Nat.{zero-add}
 use borrow.Author.Tests.{le-ltb}
 use lib.ListN.{length}
-use Rattle.bench_replies.specs.Replies.{Reply, textOf, room, written}
-use Rattle.bench_replies.specs.Placing.{Placed}
-use Rattle.bench_replies.specs.Views.{writtenOf}
+use Rattle.bench_writer.specs.Replies.{Reply, textOf, room, written}
+use Rattle.bench_writer.specs.Placing.{Placed}
+use Rattle.bench_writer.specs.Views.{writtenOf}
 
 pub placed-front : (reply : Reply) {buffer after : List ℕ} {next : ℕ} → room ≤ length buffer → Placed buffer 0 (textOf reply) after next
     → writtenOf next after ≡ written reply buffer

@@ -1,1 +1,3 @@
+pub mod PlacingLaws
+pub mod DecimalLaws
 pub mod Front

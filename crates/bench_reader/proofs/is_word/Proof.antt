@@ -2,7 +2,7 @@
 use mathlib.Core.Path.{sym, _∙_}
 use borrow.Author.Needs.{needs}
 use borrow.Author.Tests.{eq-eqb, ne-eqb}
-use Rattle.bench_lines.specs.Commands.{isWord}
+use Rattle.bench_reader.specs.Commands.{isWord}
 use Rattle.bench_reader.proofs.is_word.Statement.{statement}
 use Rattle.bench_reader.proofs.is_word.Tie as tie
 

@@ -1,14 +1,14 @@
 -- `read` is the definition's: a line that is too long is a bad one. Assumes nothing.
 use mathlib.Core.Path.{sym, _∙_}
 use borrow.Author.Tests.{lt-ltb, le-ltb}
-use Rattle.bench_lines.specs.Commands.{read}
+use Rattle.bench_reader.specs.Commands.{read}
 use borrow.Author.Needs.{needs}
 use Rattle.bench_reader.proofs.read.Statement.{statement}
 use Rattle.bench_reader.proofs.read.Tie as tie
 
 returns : tie.Need-returns
 unfolding read
-returns c = c .only .ensures ∙ sym (rw (lt-ltb 512 _ (c .before .if1 .taken)))
+returns c = c .word-alone .ensures ∙ sym (rw (lt-ltb 512 _ (c .before .if1 .taken)))
 
 returns-2 : tie.Need-returns-2
 unfolding read

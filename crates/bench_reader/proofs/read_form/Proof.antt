@@ -4,7 +4,7 @@ use mathlib.Core.Bool.{false}
 use mathlib.Core.List.{List}
 use mathlib.Core.Path.{_≡_, sym, _∙_}
 use Rattle.fields.specs.Fields.{begins}
-use Rattle.bench_lines.specs.Commands.{keyWord, orderWord, resyncWord, putWord, askWord, isWord}
+use Rattle.bench_reader.specs.Commands.{keyWord, orderWord, resyncWord, putWord, askWord, isWord}
 use Rattle.bench_reader.proofs.Choices.{begins-length, by-key, by-order, by-resync, by-put, by-ask, by-show, by-none}
 use borrow.Author.Needs.{needs}
 use Rattle.bench_reader.proofs.read_form.Statement.{statement}
@@ -53,7 +53,8 @@ returns-3 : tie.Need-returns-3
 returns-3 c =
     let order = c .before .before .before .before in
     let key = past-order order in
-    c .read-batch2 .ensures ∙ by-resync (Line key) (not-key key) (not-order order) (sym (c .before .before .begins3 .ensures) ∙ c .before .if3 .taken)
+    c .read-batch2 .ensures
+    ∙ by-resync (Line key) (not-key key) (not-order order) (sym (c .before .before .begins3 .ensures) ∙ c .before .if3 .taken)
 
 read-put-requires : tie.Need-read-put-requires
 read-put-requires c κs = begins-length putWord _ (sym (c .before .begins4 .ensures) ∙ c .if4 .taken)
@@ -64,7 +65,8 @@ returns-4 c =
     let order = past-resync resync in
     let key = past-order order in
     c .read-put .ensures
-    ∙ by-put (Line key) (not-key key) (not-order order) (not-resync resync) (sym (c .before .before .begins4 .ensures) ∙ c .before .if4 .taken)
+    ∙ by-put (Line key) (not-key key) (not-order order) (not-resync resync)
+    (sym (c .before .before .begins4 .ensures) ∙ c .before .if4 .taken)
 
 returns-5 : tie.Need-returns-5
 returns-5 c =
@@ -72,8 +74,9 @@ returns-5 c =
     let resync = past-put put in
     let order = past-resync resync in
     let key = past-order order in
-    c .only .ensures
-    ∙ by-ask (Line key) (not-key key) (not-order order) (not-resync resync) (not-put put) (sym (c .before .before .is-word .ensures) ∙ c .before .if5 .taken)
+    c .word-alone .ensures
+    ∙ by-ask (Line key) (not-key key) (not-order order) (not-resync resync) (not-put put)
+    (sym (c .before .before .is-word .ensures) ∙ c .before .if5 .taken)
 
 returns-6 : tie.Need-returns-6
 returns-6 c =
@@ -82,7 +85,7 @@ returns-6 c =
     let resync = past-put put in
     let order = past-resync resync in
     let key = past-order order in
-    c .only2 .ensures
+    c .word-alone2 .ensures
     ∙ by-show (Line key) (not-key key) (not-order order) (not-resync resync) (not-put put) (not-ask ask)
     (sym (c .before .before .is-word2 .ensures) ∙ c .before .if6 .taken)
 
@@ -93,7 +96,7 @@ returns-7 c =
     let resync = past-put put in
     let order = past-resync resync in
     let key = past-order order in
-    c .only3 .ensures
+    c .word-alone3 .ensures
     ∙ by-none (Line key) (not-key key) (not-order order) (not-resync resync) (not-put put) (not-ask ask)
     (sym (c .before .before .is-word2 .ensures) ∙ c .before .if6 .left)
 

@@ -2,7 +2,7 @@
 use mathlib.Core.Path.{sym}
 use borrow.Author.Tests.{lt-ltb}
 use native.Mathlib.Omega.{arith}
-use Rattle.bench_replies.specs.Replies.{written}
+use Rattle.bench_writer.specs.Replies.{written}
 use Rattle.bench_writer.proofs.Front.{placed-front}
 use borrow.Author.Needs.{needs}
 use Rattle.bench_writer.proofs.write.Statement.{statement}

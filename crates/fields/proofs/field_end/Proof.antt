@@ -33,20 +33,27 @@ abbrev μ-loop : tie.MeasureT-loop
 loop-holds : tie.Need-loop-holds Inv-loop μ-loop
 loop-holds c = (omega arith, c .pre, refl)
 
+-- a character read, the loop's head before that, and the line
+abbrev head : tie.After-shared-slice-known Inv-loop μ-loop → tie.At-loop Inv-loop μ-loop
+head c = c .before .before
+
+abbrev line : tie.At-loop Inv-loop μ-loop → List ℕ
+line l = l .before .args .line .now
+
 returns : tie.Need-returns Inv-loop μ-loop
 returns c =
-    let l = c .before .before .before in
-    (here (l .before .args .line .now) (l .loop .i) (omega arith) (c .if1 .taken) ∙ sym (l .loop .inv .2), omega arith, omega arith)
+    let l = head (c .before) in
+    (here (line l) (l .loop .i) (omega arith) (c .if1 .taken) ∙ sym (l .loop .inv .2), omega arith, omega arith)
 
 loop-again : tie.Need-loop-again Inv-loop μ-loop
 loop-again c =
-    let l = c .before .before .before in
-    (omega arith, omega arith, l .loop .inv .2 ∙ later (l .before .args .line .now) (l .loop .i) (omega arith) (c .if1 .left))
+    let l = head (c .before) in
+    (omega arith, omega arith, l .loop .inv .2 ∙ later (line l) (l .loop .i) (omega arith) (c .if1 .left))
 
 returns-2 : tie.Need-returns-2 Inv-loop μ-loop
 returns-2 c =
     let l = c .before in
-    (over (l .before .args .line .now) (l .loop .i) (c .loop-test .left) ∙ sym (l .loop .inv .2), omega arith, omega arith)
+    (over (line l) (l .loop .i) (c .loop-test .left) ∙ sym (l .loop .inv .2), omega arith, omega arith)
 
 pub field-end-spec : {M : Type 1} → statement M
 field-end-spec =

@@ -1,2 +1,0 @@
-pub mod HexFields
-pub mod Rands
