@@ -3,17 +3,18 @@ use Prim.Native.Nat.{ℕ, _*_, _≤_}
 use mathlib.Core.Bool.{Bool, true, false, _||_, or-false, or-true}
 use mathlib.Core.List.{List, [], _∷_}
 use mathlib.Core.Logic.{_⊎_, ⊎-elim}
-use mathlib.Core.Path.{_≡_, refl, sym, ap, _∙_}
+use mathlib.Core.Path.{_≡_, refl, sym, ap, ap₂, _∙_}
 use native.Mathlib.Nat.{mul-le-mul-left}
 use native.Mathlib.Omega.{arith}
 use borrow.Author.Tests.{le-ltb}
 use denote.Enum.Declared.{tagOf}
 use types.Run.{OneOf, miss}
 use lib.ListN.{length, take}
-use lib.Seq.{take-all}
-use Rattle.octets.specs.Octets.{Octets}
-use Rattle.aka.specs.Layout.{mostVectors}
+use lib.Seq.{take-all, length-take-le}
+use Rattle.octets.specs.Octets.{Octets, zeros}
+use Rattle.aka.specs.Layout.{randSize, vectorSize, mostVectors}
 use Rattle.bench_reader.specs.Commands as lines
+use Rattle.bench_reader.specs.Commands.{randsSize}
 use Rattle.bench_reader.specs.declared.Word.{Word}
 use Rattle.bench_reader.specs.declared.Word.the-variants.{Bad, Key, Order, Ask, Put, Resync, Show}
 use Rattle.bench_reader.specs.Views.{wordOf}
@@ -23,7 +24,9 @@ use Rattle.bench_writer.specs.declared.Reply as declaredReply
 use Rattle.bench_writer.specs.declared.Reply.the-variants as reply
 use Rattle.bench_writer.specs.Views.{replyOf}
 use Rattle.bench_writer.proofs.Reply as replies
-use Rattle.bench_core.specs.Bench.{Bench, BenchAnswer, badLine, isSync, onceKeyed, answerTo, step, Stepped, stepped}
+use Rattle.bench_desk.specs.Desk.{DeskAnswer}
+use Rattle.bench_core.specs.Bench.{Bench, BenchAnswer, badLine, isSync, randsFor, roomFor, onceKeyed, answerTo, step}
+use Rattle.bench_core.specs.Bench.{Stepped, stepped}
 
 pub once : (bench : Bench) {r rest : BenchAnswer} → bench .keyed ≡ true → r ≡ rest → r ≡ onceKeyed bench rest
 unfolding onceKeyed
@@ -77,8 +80,19 @@ after-sync before e = rw e (sym (or-true before))
 
 -- ---- what is lent
 
--- from a list of so many parts of k octets: as many as the count, or all of them
-pub lent-parts : (k : ℕ) (l : Octets) {n count : ℕ} → length l ≡ k * mostVectors
+abbrev room-for-five : Octets
+room-for-five = zeros (vectorSize * mostVectors)
+
+-- the parts of both are as long as is said
+module _ (n : ℕ) (fits : n ≤ mostVectors) where
+  pub rands-lent : (rands : Octets) → length rands ≡ randsSize → randSize * n ≡ length (take (randSize * n) rands)
+  rands-lent rands size = sym (length-take-le (randSize * n) rands (omega arith))
+
+  pub room-lent : vectorSize * n ≡ length (take (vectorSize * n) room-for-five)
+  room-lent = sym (length-take-le (vectorSize * n) room-for-five (omega arith))
+
+-- from a list of five parts of k octets: as many as the count, or all of them
+lent-parts : (k : ℕ) (l : Octets) {n count : ℕ} → length l ≡ k * mostVectors
     → (n ≡ count) ⊎ ((n ≡ mostVectors) × (mostVectors ≤ count)) → take (k * n) l ≡ take (k * count) l
 lent-parts k l {n} {count} size h = ⊎-elim (ap (λ (m : ℕ). take (k * m) l)) all h
   where
@@ -87,6 +101,12 @@ lent-parts k l {n} {count} size h = ⊎-elim (ap (λ (m : ℕ). take (k * m) l))
         let most : k * mostVectors ≤ k * count = mul-le-mul-left k (w .1) in
         let same : k * n ≡ k * mostVectors = ap (λ (m : ℕ). k * m) (w .0) in
         take-all (k * n) l (omega arith) ∙ sym (take-all (k * count) l (omega arith))
+
+-- a step of the desk with what is lent for n is the one with what is lent for the count
+pub lent-for-count : (step : Octets → Octets → DeskAnswer) (rands : Octets) {n count : ℕ} → length rands ≡ randsSize
+    → (n ≡ count) ⊎ ((n ≡ mostVectors) × (mostVectors ≤ count))
+    → step (take (randSize * n) rands) (take (vectorSize * n) room-for-five) ≡ step (randsFor count rands) (roomFor count)
+lent-for-count step rands size h = ap₂ step (lent-parts randSize rands size h) (lent-parts vectorSize room-for-five refl h)
 
 -- ---- any line
 
