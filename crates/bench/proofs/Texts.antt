@@ -3,9 +3,9 @@ use mathlib.Core.Path.{_≡_, ap, _∙_}
 use lib.ListN.{length, take, drop}
 use lib.Seq.{take-append-seam}
 use Rattle.octets.specs.Octets.{Octets, zeros}
-use Rattle.bench_replies.specs.Replies.{textOf, written}
-use Rattle.bench_state.specs.Bench.{Bench, step}
-use Rattle.bench_core.specs.Step.{Stepped, stepped}
+use Rattle.bench_writer.specs.Replies.{textOf, written}
+use Rattle.bench_core.specs.Bench.{Bench, step}
+use Rattle.bench_core.specs.Bench.{Stepped, stepped}
 
 module _ (bench : Bench) (line : Octets) {s : Stepped} (e : s ≡ stepped bench line (zeros 96)) where
   pub bench-is : s .bench ≡ step bench line .bench

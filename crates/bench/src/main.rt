@@ -1,10 +1,10 @@
 // The bench: a card, a centre record and a node, driven by the lines of the standard input. Each line is answered by one line.
-use bench_state::Bench;
+use bench_core::Bench;
 ghost use mathlib.Core.Path.{_≡_};
 ghost use Rattle.console.specs.Waiting.{afterPut, bufferOf};
-ghost use Rattle.bench_replies.specs.Replies.{textOf};
-ghost use Rattle.bench_state.specs.Bench.{step};
-ghost use Rattle.bench_state.specs.Views.{benchOf};
+ghost use Rattle.bench_writer.specs.Replies.{textOf};
+ghost use Rattle.bench_core.specs.Bench.{step};
+ghost use Rattle.bench_core.specs.Views.{benchOf};
 
 // The bench after a line, and how many bytes wait in the output buffer.
 pub struct Answered {
@@ -29,7 +29,7 @@ fn answer(bench: Bench, line: &[u8], out: &mut [u8], used: usize) -> Answered
 
 // Answers every line of the input. A proved loop has to end, so this one counts its turns down, from a number that no run uses up.
 fn answer_all(piece: &mut [u8], line: &mut [u8], out: &mut [u8]) {
-    let mut bench = bench_records::new();
+    let mut bench = bench_core::new();
     let mut input = console::start();
     let mut turns = u64::MAX;
     while turns > 0 {

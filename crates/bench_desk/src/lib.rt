@@ -124,8 +124,8 @@ pub fn show(desk: Desk) -> DeskAnswer
     let auc = desk.auc;
     let usim = desk.usim;
     let places = usim.places;
-    let seqms = places::highest(places);
-    let index = places::lowest_index(places, seqms);
+    let seqms = usim_record::places::highest(places);
+    let index = usim_record::places::lowest_index(places, seqms);
     DeskAnswer {
         desk,
         reply: Reply::Shown(auc.seqhe, auc.next as u64, seqms, index as u64),

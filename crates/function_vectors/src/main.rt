@@ -27,10 +27,10 @@ fn read_line(
     if line.len() != 118 {
         return 10;
     }
-    let keys = bench_lines::hex_field(line, 1, k) & bench_lines::hex_field(line, 34, opc);
-    let challenge = bench_lines::hex_field(line, 67, rand)
-        & bench_lines::hex_field(line, 100, sqn)
-        & bench_lines::hex_field(line, 113, amf);
+    let keys = fields::hex_field(line, 1, k) & fields::hex_field(line, 34, opc);
+    let challenge = fields::hex_field(line, 67, rand)
+        & fields::hex_field(line, 100, sqn)
+        & fields::hex_field(line, 113, amf);
     if keys & challenge {
         return digit(line[0]);
     }

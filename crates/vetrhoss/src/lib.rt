@@ -6,8 +6,8 @@ mod buffers;
 mod results;
 mod usim_answer;
 
-use usim::Verdict;
 use auc::Offset;
+use usim::Verdict;
 ghost use mathlib.Core.Path.{_≡_};
 ghost use Rattle.vetrhoss.specs.Interface.{opcCall, newUsimCall, newAucCall, challengeCall, orderCall, resyncCall, vectorAtCall};
 

@@ -1,7 +1,7 @@
 -- `answer` puts the text of the line's answer. Assumes nothing.
 use mathlib.Core.Path.{ap, _∙_}
 use Rattle.console.specs.Waiting.{afterPut}
-use Rattle.bench_state.specs.Views.{benchOf}
+use Rattle.bench_core.specs.Views.{benchOf}
 use Rattle.bench.proofs.Texts.{bench-is, text-is}
 use borrow.Author.Needs.{needs}
 use Rattle.bench.proofs.answer.Statement.{statement}
