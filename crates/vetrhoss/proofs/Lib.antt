@@ -2,4 +2,3 @@ mod Sizes
 mod NewImages
 mod UsimAnswers
 mod AucAnswers
-mod VectorPlaces

@@ -1,15 +1,16 @@
 -- The C interface: what each call returns, and what the octets lent to it hold at the end, for octets of any length and contents. The
 -- numbers returned are those of Results. A refusal leaves the octets as they were. An image is read first: what its reading refuses is the
 -- call's answer, before every other refusal. Assumes nothing: these are definitions.
-use Prim.Native.Nat.{ℕ, _*_}
+use Prim.Native.Nat.{ℕ}
 use mathlib.Core.Bool.{Bool, _&&_, not, cond}
+use mathlib.Core.Option.{Option, none, some}
 use lib.Dec.{eqb}
 use lib.ListN.{length}
 use Rattle.octets.specs.Octets.{Octets}
 use Rattle.aes.specs.Cipher.{aes}
 use Rattle.milenage.specs.Opc.{opc}
 use Rattle.functions.specs.Sets.{sets}
-use Rattle.aka.specs.Layout.{keySize, amfSize, resSize, ckSize, ikSize, autsSize, vectorSize, isPlace}
+use Rattle.aka.specs.Layout.{keySize, amfSize, resSize, ckSize, ikSize, autsSize, vectorOffset}
 use Rattle.aka.specs.Usim as card
 use Rattle.aka.specs.Auc as centre
 use Rattle.aka.specs.Sequence.{width}
@@ -145,5 +146,10 @@ resyncCall lent count rand auts rands = onImage lent (λ auc. centre.resync widt
 
 -- ---- where the vector at place k begins in a batch
 
+-- an offset, or refusal 3
+abbrev pub offsetResult : Option ℕ → ℕ
+offsetResult none = 3
+offsetResult (some offset) = both 0 offset
+
 unfoldable pub vectorAtCall : (batch : Octets) (k : ℕ) → ℕ
-vectorAtCall batch k = cond (not (isPlace batch k)) 3 (both 0 (vectorSize * k))
+vectorAtCall batch k = offsetResult (vectorOffset (length batch) k)
