@@ -14,7 +14,7 @@ use Rattle.aka.specs.Sequence.{D, limit}
 use Rattle.aka.specs.Usim.{Usim, UsimAnswer, seqMs, syncFailure, unchanged}
 use Rattle.aka.specs.Auc.{AucAnswer, kept, reset, seqAt, indAt, batchFrom, inRange, keptOrReset, macSRight, seqMsIn, makeVector}
 use Rattle.aka.specs.Auc.{defaultCount, afterBatch, resync}
-use Rattle.aka.specs.Demand3.{Setting, Call, AnsweredCall, Each, Promised, Premise, Conclusion, Demand3, OtherNotAccepted}
+use Rattle.aka.specs.Demand3.{Setting, Shapes, Call, AnsweredCall, Each, Promised, Premise, Conclusion, Demand3, OtherNotAccepted}
 use Rattle.aka.specs.Demand3.{n, failure, renewal, answered, answersTo}
 use Rattle.aka.proofs.Places.{within}
 use Rattle.aka.proofs.Tokens.{sqnOctets}
@@ -32,7 +32,8 @@ each-map f (c ∷ l) h = (f c (h .0), each-map f l (h .1))
 
 -- ---- the theorem
 
-module _ (w : ℕ) (hw : w ≤ 48) (family : Family) (lawful : Lawful family) (s : Setting) (p : Premise w family s) where
+module _ (w : ℕ) (hw : w ≤ 48) (family : Family) (lawful : Lawful family) (s : Setting)
+    (shapes : Shapes w s) (p : Premise w family s) where
   abbrev F : Functions
   F = family .under (s .usim .keys)
 
@@ -46,7 +47,7 @@ module _ (w : ℕ) (hw : w ≤ 48) (family : Family) (lawful : Lawful family) (s
   st = keptOrReset (s .auc .seqhe) ms N
 
   L : Lengths F
-  L = lawful .lengths (s .usim .keys) (valid-parts w family (s .usim) (p .usim-valid) .0) (p .usim-keys)
+  L = lawful .lengths (s .usim .keys) (valid-parts w family (s .usim) (p .usim-valid) .0) (shapes .usim .keys)
 
   -- the same keys, the same functions
   L′ : Lengths (family .under (s .auc .keys))
@@ -60,7 +61,7 @@ module _ (w : ℕ) (hw : w ≤ 48) (family : Family) (lawful : Lawful family) (s
       .0
 
   abbrev auts : Octets
-  auts = autsOf w hw family (s .usim) L (p .usim-valid) (p .usim-places) (s .rand) rand-size
+  auts = autsOf w hw family (s .usim) L (p .usim-valid) (shapes .usim .places) (s .rand) rand-size
 
   failure-is : failure w family s ≡ unchanged syncFailure (s .usim) auts
   failure-is = sync-answer w family (s .usim) (s .rand) (s .autn) (p .failed)
@@ -72,12 +73,12 @@ module _ (w : ℕ) (hw : w ≤ 48) (family : Family) (lawful : Lawful family) (s
   right : macSRight (family .under (s .auc .keys)) (s .rand) auts ≡ true
   right =
       ap (λ G. macSRight G (s .rand) auts) same
-      ∙ auts-is-right w hw family (s .usim) L (p .usim-valid) (p .usim-places) (s .rand) rand-size
+      ∙ auts-is-right w hw family (s .usim) L (p .usim-valid) (shapes .usim .places) (s .rand) rand-size
 
   has : seqMsIn w (family .under (s .auc .keys)) (s .rand) auts ≡ ms
   has =
       ap (λ G. seqMsIn w G (s .rand) auts) same
-      ∙ auts-has w hw family (s .usim) L (p .usim-valid) (p .usim-places) (s .rand) rand-size
+      ∙ auts-has w hw family (s .usim) L (p .usim-valid) (shapes .usim .places) (s .rand) rand-size
 
   bounds : (ms ≤ st) × (st + N ≤ ms + D) × (st + N ≤ limit w)
   bounds =
@@ -95,7 +96,7 @@ module _ (w : ℕ) (hw : w ≤ 48) (family : Family) (lawful : Lawful family) (s
       ap (λ (a : UsimAnswer). resync w family (s .auc) (s .count) (s .rands) (s .buffer) (s .rand) (a .auts)) failure-is
       ∙ resync-given w family (s .auc) (s .count) (s .rands) (s .buffer)
       (p .auc-valid) (p .count) (p .rands) (p .buffer) (p .unequal-rands) (s .rand) auts rand-size
-      (auts-is-long w hw family (s .usim) L (p .usim-valid) (p .usim-places) (s .rand) rand-size)
+      (auts-is-long w hw family (s .usim) L (p .usim-valid) (shapes .usim .places) (s .rand) rand-size)
       (rw (right, has) (or-true (inRange (s .auc .seqhe) ms N))) (rw has (bounds .2))
       ∙ rw has
 
@@ -106,14 +107,14 @@ module _ (w : ℕ) (hw : w ≤ 48) (family : Family) (lawful : Lawful family) (s
       → vectorAt batch k ≡ makeVector F (sqnOctets w (seqAt st k) (indAt (s .auc) k)) (s .auc .amf) (randAt (s .rands) k)
   vectors k h =
       ap (λ (a : AucAnswer). vectorAt (a .batch) k) renewal-is
-      ∙ batch-vector w family (s .auc) L′ (p .auc-amf) st (s .rands) N (p .rands) k h
+      ∙ batch-vector w family (s .auc) L′ (shapes .auc .amf) st (s .rands) N (p .rands) k h
       ∙ ap (λ G. makeVector G (sqnOctets w (seqAt st k) (indAt (s .auc) k)) (s .auc .amf) (randAt (s .rands) k)) same
 
   rising : Rising w family (s .usim) batch N (s .auc .amf) (seqAt st) (indAt (s .auc)) (randAt (s .rands))
   rising = record {
     width = hw;
     known = valid-parts w family (s .usim) (p .usim-valid) .0;
-    amf-size = p .auc-amf;
+    amf-size = shapes .auc .amf;
     rand-size = length-rand (s .rands) N (p .rands);
     index = λ k h. valid-iff w family (s .auc) .0 (p .auc-valid) .2;
     above = λ k h. omega (arith, bounds);
@@ -141,7 +142,7 @@ module _ (w : ℕ) (hw : w ≤ 48) (family : Family) (lawful : Lawful family) (s
   counted : (calls : List Call) → Goal (s .usim) calls
   counted calls =
       all-calls w family (s .usim) L batch N (s .auc .amf) (seqAt st) (indAt (s .auc)) (randAt (s .rands)) rising
-      (p .usim-places) (valid-parts w family (s .usim) (p .usim-valid) .1) calls
+      (shapes .usim .places) (valid-parts w family (s .usim) (p .usim-valid) .1) calls
 
   kept-or-reset : (b : Bool) → (cond b kept reset ≡ kept) ⊎ (cond b kept reset ≡ reset)
   kept-or-reset true = inl refl

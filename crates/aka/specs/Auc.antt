@@ -2,12 +2,13 @@
 -- TS 33.102 §6.3.2 and §6.3.5; document 01, 'What the centre does' and 'Refusal numbers'. Assumes nothing.
 use Prim.Native.Nat.{ℕ, zero, suc, _+_, _*_, _%_}
 use mathlib.Core.Bool.{Bool, _&&_, not, cond}
+use mathlib.Core.Path.{_≡_}
 use lib.Dec.{eqb, ltb, leb}
 use lib.ListN.{length}
 use Rattle.octets.specs.Octets.{Octets, xor, equal, encode, decode}
 use Rattle.aka.specs.Layout.{Vector, writeAutn, writeVector, readAuts}
-use Rattle.aka.specs.Layout.{randSize, sqnSize, autsSize, vectorSize, mostVectors, randAt, joined}
-use Rattle.aka.specs.Functions.{Keys, Functions, Family, dummyAmf}
+use Rattle.aka.specs.Layout.{randSize, sqnSize, amfSize, autsSize, vectorSize, mostVectors, randAt, joined}
+use Rattle.aka.specs.Functions.{Keys, Shaped, Functions, Family, dummyAmf}
 use Rattle.aka.specs.Sequence.{D, indices, limit, sqnOf, seqOf}
 
 -- the centre's record
@@ -16,6 +17,11 @@ pub record Auc : Type 0 where
   pub amf : Octets
   pub seqhe : ℕ  -- SEQ_HE
   pub next : ℕ  -- the next index
+
+-- K, OPc and AMF have their length (the code's types see to it)
+pub record AucShaped (auc : Auc) : Type 0 where
+  pub keys : Shaped (auc .keys)
+  pub amf : length (auc .amf) ≡ amfSize
 
 abbrev pub newAuc : Keys → (amf : Octets) → Auc
 newAuc keys amf = record { keys = keys; amf = amf; seqhe = 0; next = 0 }

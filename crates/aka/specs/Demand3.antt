@@ -8,11 +8,11 @@ use mathlib.Core.Option.{Option, none, some}
 use mathlib.Core.Path.{_≡_}
 use lib.ListN.{length}
 use Rattle.octets.specs.Octets.{Octets, equal}
-use Rattle.aka.specs.Layout.{Vector, randSize, amfSize, vectorSize, mostVectors, vectorAt}
-use Rattle.aka.specs.Functions.{Functions, Family, Shaped, Lawful}
-use Rattle.aka.specs.Sequence.{sqnBits, indices, limit}
-use Rattle.aka.specs.Usim.{Usim, UsimAnswer, accepted, syncFailure, challenge, validUsim, lengthsRight, seqMs, seqIn}
-use Rattle.aka.specs.Auc.{Auc, AucAnswer, unequal, kept, reset, validAuc, resync, resyncCount, equalPair}
+use Rattle.aka.specs.Layout.{Vector, randSize, vectorSize, mostVectors, vectorAt}
+use Rattle.aka.specs.Functions.{Functions, Family, Lawful}
+use Rattle.aka.specs.Sequence.{sqnBits, limit}
+use Rattle.aka.specs.Usim.{Usim, UsimShaped, UsimAnswer, accepted, syncFailure, challenge, validUsim, lengthsRight, seqMs, seqIn}
+use Rattle.aka.specs.Auc.{Auc, AucShaped, AucAnswer, unequal, kept, reset, validAuc, resync, resyncCount, equalPair}
 
 -- a USIM and a challenge to it; an AuC, and what is lent to its resynchronisation
 pub record Setting : Type 0 where
@@ -112,6 +112,11 @@ pub record Promised (w : ℕ) (F : Functions) (batch : Octets) (n seqhe : ℕ) (
 
 -- ---- the statement
 
+-- the parts of both records have their lengths; the types of the code see to that, and the crate `demand3` takes it from them
+pub record Shapes (w : ℕ) (s : Setting) : Type 0 where
+  pub usim : UsimShaped w (s .usim)
+  pub auc : AucShaped (s .auc)
+
 module _ (w : ℕ) (family : Family) (s : Setting) where
   -- the count that results
   abbrev pub n : ℕ
@@ -126,12 +131,9 @@ module _ (w : ℕ) (family : Family) (s : Setting) where
   renewal = resync w family (s .auc) (s .count) (s .rands) (s .buffer) (s .rand) (failure .auts)
 
   pub record Premise : Type 0 where
-    -- valid records, whose places, K, OPc and AMF have their sizes (the code's types see to that)
+    -- valid records
     pub usim-valid : validUsim w family (s .usim) ≡ true
-    pub usim-places : length (s .usim .places) ≡ indices w
-    pub usim-keys : Shaped (s .usim .keys)
     pub auc-valid : validAuc w family (s .auc) ≡ true
-    pub auc-amf : length (s .auc .amf) ≡ amfSize
     -- the same set, K and OPc
     pub same-keys : s .auc .keys ≡ s .usim .keys
     -- count, lent parts and RANDs are as named: refusals 2, 3 and 4 do not apply
@@ -158,4 +160,5 @@ module _ (w : ℕ) (family : Family) (s : Setting) where
 
 -- for every width of the index, every lawful family, and every setting that meets the premise
 abbrev pub Demand3 : Type 0
-Demand3 = (w : ℕ) → w ≤ sqnBits → (family : Family) → Lawful family → (s : Setting) → Premise w family s → Conclusion w family s
+Demand3 = (w : ℕ) → w ≤ sqnBits → (family : Family) → Lawful family
+    → (s : Setting) → Shapes w s → Premise w family s → Conclusion w family s

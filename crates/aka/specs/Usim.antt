@@ -4,17 +4,23 @@
 use Prim.Native.Nat.{ℕ, suc, _-_, max}
 use mathlib.Core.Bool.{Bool, true, _&&_, _||_, not, cond}
 use mathlib.Core.List.{List, [], _∷_}
+use mathlib.Core.Path.{_≡_}
 use lib.Dec.{eqb, ltb, leb}
 use lib.ListN.{length, getD, replicate, set}
 use Rattle.octets.specs.Octets.{Octets, zeros, xor, equal, encode, decode}
 use Rattle.aka.specs.Layout.{randSize, autnSize, resSize, ckSize, ikSize, sqnSize, autsSize, readAutn, writeAuts}
-use Rattle.aka.specs.Functions.{Keys, Functions, Family, dummyAmf}
+use Rattle.aka.specs.Functions.{Keys, Shaped, Functions, Family, dummyAmf}
 use Rattle.aka.specs.Sequence.{D, indices, limit, sqnOf, seqOf, indOf}
 
 -- the card's record
 pub record Usim : Type 0 where
   pub keys : Keys
   pub places : List ℕ  -- document 01: the thirty-two places of the card; a SEQ for each index
+
+-- K and OPc have their length, and there is a place for each index (the code's types see to it)
+pub record UsimShaped (w : ℕ) (usim : Usim) : Type 0 where
+  pub keys : Shaped (usim .keys)
+  pub places : length (usim .places) ≡ indices w
 
 -- all places 0
 abbrev pub newUsim : (w : ℕ) → Keys → Usim

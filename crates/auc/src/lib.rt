@@ -19,7 +19,7 @@ ghost use Rattle.functions.specs.Challenge.{keysOf, IsSchedule};
 ghost use Rattle.functions.specs.Sets.{sets};
 ghost use Rattle.aka.specs.Layout.{randSize, vectorSize, mostVectors};
 ghost use Rattle.aka.specs.Sequence.{width, indices, limit};
-ghost use Rattle.aka.specs.Auc.{order as orderOf, resync, kept as keptOf, reset, refusalOf, lentAuts};
+ghost use Rattle.aka.specs.Auc.{AucShaped, order as orderOf, resync, kept as keptOf, reset, refusalOf, lentAuts};
 ghost use Rattle.aka.specs.Auc.{unlessPast, answerWith, resyncFrom, autsOutcome};
 ghost use Rattle.auc_record.specs.Views.{aucOf, outcomeOf, answerOf};
 
@@ -149,10 +149,11 @@ pub fn resynchronise(
     rands: &[u8],
     batch: &mut [u8],
 ) -> Answer
-    ensures { λ r. ⌜
+    ensures answer { λ r. ⌜
         answerOf r (now (batch .exit))
         ≡ resync width sets (aucOf auc) count (now (rands .entry)) (now (batch .entry)) (now (rand .entry)) (now (auts .entry))
         ⌝ }
+    ensures shape { λ _. ⌜ AucShaped (aucOf auc) ⌝ }
 {
     let lent = auts_fits(rand, auts);
     let checked = auc_record::check(auc, aka::DEFAULT_COUNT, count, rands, batch.len(), lent);

@@ -13,14 +13,14 @@ use Rattle.octets.proofs.Ranges.{below-part}
 use Rattle.functions.specs.Sets.{sets}
 use Rattle.aka.specs.Layout.{amfSize, sqnSize}
 use Rattle.aka.specs.Functions.{Family}
-use Rattle.aka.specs.Auc.{Auc, validAuc}
+use Rattle.aka.specs.Auc.{Auc, validAuc, AucShaped}
 use Rattle.aka.specs.Sequence.{sqnBits, width, seqBits}
 use Rattle.aka.proofs.Outcomes.{valid-iff}
 use Rattle.images.specs.Head.{head, headSize, nibble, knownHead}
 use Rattle.images.specs.Images.{RoundTrips}
 use Rattle.images.proofs.Heads.{few-sets, length-head, read-head, known-head, known-set, write-head}
 use Rattle.images.proofs.RoundTrips as images
-use Rattle.auc_image.specs.RoundTrips.{AucShaped, AucImagePromise}
+use Rattle.auc_image.specs.RoundTrips.{AucImagePromise}
 use Rattle.auc_image.specs.Image.{amfAt, countersAt, imageSize, bits, image, readImage, format}
 use Rattle.auc_image.proofs.Bits.{read-first, read-second, first-fits, second-fits, write-bits}
 

@@ -1,6 +1,6 @@
 -- The protocol's theorems at the index width 5 and the sets of document 01. Assumes nothing.
 use native.Mathlib.Omega.{arith}
-use Rattle.aka.specs.Demand3.{Setting, Premise, Conclusion}
+use Rattle.aka.specs.Demand3.{Setting, Shapes, Premise, Conclusion}
 use Rattle.aka.specs.Table.{Sample, Proper, Table}
 use Rattle.aka.specs.UsimLaws.{UsimPromise}
 use Rattle.aka.specs.AucLaws.{AucPromise}
@@ -12,7 +12,7 @@ use Rattle.aka.specs.Sequence.{width}
 use Rattle.functions.specs.Sets.{sets}
 use Rattle.functions.proofs.Family.{lawful}
 
-pub demand3-holds : (s : Setting) → Premise width sets s → Conclusion width sets s
+pub demand3-holds : (s : Setting) → Shapes width s → Premise width sets s → Conclusion width sets s
 demand3-holds = demand3 width (omega arith) sets lawful
 
 pub table-holds : (x : Sample) → Proper sets x → Table sets x

@@ -17,7 +17,7 @@ use Rattle.aka.specs.Usim.{validUsim, lengthsRight, macRight, fresh, highest, l
 use Rattle.aka.specs.Auc.{unequal, kept, reset, validAuc, makeAutn, makeVector, batchFrom, pairWith, pairFrom, equalPair, lentFor}
 use Rattle.aka.specs.Auc.{lentAuts, unlessRefused, unlessPast, inRange, macSRight, autsOutcome, resyncOutcome, resync}
 use Rattle.aka.specs.Auc as auc
-use Rattle.aka.specs.Demand3.{Setting, Call, AnsweredCall, Each, OtherNotAccepted, Premise, Conclusion, carries, placeFrom}
+use Rattle.aka.specs.Demand3.{Setting, Shapes, Call, AnsweredCall, Each, OtherNotAccepted, Premise, Conclusion, carries, placeFrom}
 use Rattle.aka.specs.Demand3.{answersTo, answered, failure, renewal}
 use Rattle.aka.specs.Table.{Sample, Proper, Table, new, used}
 use Rattle.functions.specs.Sets.{testOutputs, baseOf, outputs, outputsOf, sets}
@@ -146,14 +146,14 @@ computed = record {
 
 -- ---- so the premises are met
 
+shapes : (seqhe : ℕ) → Shapes width (lost seqhe)
+shapes seqhe = record { usim = record { keys = keys-shaped; places = refl }; auc = record { keys = keys-shaped; amf = refl } }
+
 premise : (seqhe : ℕ) → validAuc width sets (lost seqhe .auc) ≡ true → seqhe ≤ 12 → Premise width sets (lost seqhe)
 unfolding highest
 premise seqhe valid small = record {
   usim-valid = computed .usim-valid;
-  usim-places = refl;
-  usim-keys = keys-shaped;
   auc-valid = valid;
-  auc-amf = refl;
   same-keys = refl;
   count = omega arith;
   rands = refl;
@@ -165,10 +165,10 @@ premise seqhe valid small = record {
 }
 
 pub kept-here : Conclusion width sets (lost 12)
-kept-here = demand3-holds (lost 12) (premise 12 (computed .valid12) (omega arith))
+kept-here = demand3-holds (lost 12) (shapes 12) (premise 12 (computed .valid12) (omega arith))
 
 pub reset-here : Conclusion width sets (lost 1)
-reset-here = demand3-holds (lost 1) (premise 1 (computed .valid1) (omega arith))
+reset-here = demand3-holds (lost 1) (shapes 1) (premise 1 (computed .valid1) (omega arith))
 
 proper : Proper sets sample
 proper = record {

@@ -16,7 +16,7 @@ ghost use Rattle.functions.specs.Sets.{sets};
 ghost use Rattle.aka.specs.Functions.{Keys as KeysOf, dummyAmf};
 ghost use Rattle.aka.specs.Layout.{sqnSize};
 ghost use Rattle.aka.specs.Sequence.{width};
-ghost use Rattle.aka.specs.Usim.{validUsim, sqnIn, sqnMs, makeAuts, macRight, accepted, judgement, challenge as challengeOf};
+ghost use Rattle.aka.specs.Usim.{UsimShaped, validUsim, sqnIn, sqnMs, makeAuts, macRight, accepted, judgement, challenge as challengeOf};
 ghost use Rattle.usim_record.specs.Views.{usimOf, answerOf, SqnTold};
 ghost use Rattle.usim.specs.Judging.{MacVerified, AnswerFor};
 
@@ -148,6 +148,7 @@ pub fn challenge(usim: Usim, rand: &[u8], autn: &[u8]) -> Answer
         answerOf r ≡ challengeOf width sets (usimOf usim) (now (rand .entry)) (now (autn .entry))
         ⌝ }
     ensures sqn { λ r. ⌜ SqnTold (r .verdict) (usimOf usim) (now (rand .entry)) (now (autn .entry)) ⌝ }
+    ensures shape { λ _. ⌜ UsimShaped width (usimOf usim) ⌝ }
 {
     if !is_valid(usim) {
         return unchanged(Verdict::Refused(1), usim, [0; aka::AUTS_SIZE]);

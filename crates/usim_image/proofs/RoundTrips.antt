@@ -13,7 +13,7 @@ use Rattle.octets.proofs.Ranges.{below-part}
 use Rattle.functions.specs.Sets.{sets}
 use Rattle.aka.specs.Functions.{Family, Shaped}
 use Rattle.aka.specs.Sequence.{indices, width, seqBits}
-use Rattle.aka.specs.Usim.{Usim, validUsim}
+use Rattle.aka.specs.Usim.{Usim, validUsim, UsimShaped}
 use Rattle.aka.proofs.Places.{within-below}
 use Rattle.aka.proofs.Verdicts.{valid-parts}
 use Rattle.packing.specs.Packing.{repacked}
@@ -22,7 +22,7 @@ use Rattle.images.specs.Head.{head, headSize, nibble, knownHead}
 use Rattle.images.specs.Images.{RoundTrips}
 use Rattle.images.proofs.Heads.{few-sets, length-head, read-head, known-head, known-set, write-head}
 use Rattle.images.proofs.RoundTrips as images
-use Rattle.usim_image.specs.RoundTrips.{UsimShaped, UsimImagePromise}
+use Rattle.usim_image.specs.RoundTrips.{UsimImagePromise}
 use Rattle.usim_image.specs.Image.{placesAt, placesSize, imageSize, image, readImage, format}
 
 -- ---- the image alone, for any index width whose places fill whole octets

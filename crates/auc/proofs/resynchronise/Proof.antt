@@ -6,9 +6,10 @@ use lib.ListN.{length}
 use Rattle.octets.specs.Octets.{Octets}
 use Rattle.functions.specs.Sets.{sets}
 use Rattle.aka.specs.Sequence.{width}
-use Rattle.aka.specs.Auc.{Auc, AucAnswer, Outcome, countOf, defaultCount, lentAuts, resyncFrom, autsOutcome, answerWith}
+use Rattle.aka.specs.Auc.{Auc, AucShaped, AucAnswer, Outcome, countOf, defaultCount, lentAuts, resyncFrom, autsOutcome, answerWith}
 use Rattle.aka.proofs.Outcomes.{lent-auts-iff}
 use Rattle.auc_record.specs.Views.{aucOf}
+use Rattle.auc_record.proofs.Shapes.{auc-shaped}
 use Rattle.auc_record.specs.Checks.{firstRefusals, Found}
 use Rattle.auc.proofs.Answers.{Asked, asked, when-refused, when-asked, resync-is}
 use borrow.Author.Needs.{needs}
@@ -44,6 +45,10 @@ module _ (c : tie.After-check) where
 
   abbrev auts : Octets
   auts = entry c .args .auts .now
+
+  -- the type of the record tells the lengths of its parts
+  shaped : AucShaped auc
+  shaped = auc-shaped (entry c .args .auc) _ (entry c .good .0)
 
   -- RAND and AUTS have their lengths
   abbrev lent : Bool
@@ -83,10 +88,12 @@ answer k m x y =
 returns : tie.Need-returns
 returns c =
     let refusal = c .before .before in
-    let k = refusal .before .before in
-    c .refused .ensures (buffer k)
-    ∙ when-refused (auc k) (count k) (rands k) (buffer k) (lent k) (from k) (outcome k) _ _ (refusal .checked .given .1) (found k)
-    ∙ resync-is (auc k) (count k) (rands k) (buffer k) (rand k) (auts k)
+    let k = refusal .before .before in (
+      c .refused .ensures (buffer k)
+          ∙ when-refused (auc k) (count k) (rands k) (buffer k) (lent k) (from k) (outcome k) _ _ (refusal .checked .given .1) (found k)
+          ∙ resync-is (auc k) (count k) (rands k) (buffer k) (rand k) (auts k),
+      shaped k,
+    )
 
 returns-2 : tie.Need-returns-2
 returns-2 c =
@@ -94,11 +101,13 @@ returns-2 c =
     let last = resumed .before .before in
     let n = counted last in
     let m = n .before .checked2 .given .0 .0 in
-    let k = checked n in
-    resumed .resume .ensures
-    ∙ ap₂ (answer k m) (last .before .sixteen .ensures) (last .fourteen .ensures)
-    ∙ when-asked (auc k) (count k) (rands k) (buffer k) (lent k) (from k) (outcome k) _ _ (n .before .checked2 .given .1) (found k)
-    ∙ resync-is (auc k) (count k) (rands k) (buffer k) (rand k) (auts k)
+    let k = checked n in (
+      resumed .resume .ensures
+          ∙ ap₂ (answer k m) (last .before .sixteen .ensures) (last .fourteen .ensures)
+          ∙ when-asked (auc k) (count k) (rands k) (buffer k) (lent k) (from k) (outcome k) _ _ (n .before .checked2 .given .1) (found k)
+          ∙ resync-is (auc k) (count k) (rands k) (buffer k) (rand k) (auts k),
+      shaped k,
+    )
 
 pub resynchronise-spec : {M : Type 1} → statement M
 resynchronise-spec =

@@ -34,7 +34,7 @@ returns-2 c =
     let accepted = found .verdict .given .1 in
     follows (desk at) (start .pre) (answer-is at)
     (on (desk at) (vlrOf (start .args .request .vlr)) (answerOf (at .challenge .result)) _ accepted (c .response .ensures))
-    (sqn-is (desk at) (start .pre) accepted (at .challenge .ensures .1 .0))
+    (sqn-is (desk at) (start .pre) accepted (at .challenge .ensures .1 .0 .0))
 
 pub challenge-spec : {M : Type 1} → statement M
 challenge-spec =

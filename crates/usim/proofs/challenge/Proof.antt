@@ -4,10 +4,11 @@ use mathlib.Core.Path.{_≡_, refl, sym, _∙_}
 use borrow.Author.Tests.{not-true, not-false, eq-eqb, ne-eqb}
 use Rattle.octets.specs.Octets.{Octets}
 use Rattle.functions.specs.Sets.{sets}
-use Rattle.aka.specs.Usim.{Usim, refused, validUsim, lengthsRight, challenge as challengeOf}
+use Rattle.aka.specs.Usim.{Usim, UsimShaped, refused, validUsim, lengthsRight, challenge as challengeOf}
 use Rattle.aka.proofs.Verdicts.{refused-1, refused-3, judged, lengths-right}
 use Rattle.aka.specs.Sequence.{width}
 use Rattle.usim_record.specs.Views.{usimOf}
+use Rattle.usim_record.proofs.Shapes.{usim-shaped}
 use Rattle.usim.proofs.Answered.{answered, refusal}
 use borrow.Author.Needs.{needs}
 use Rattle.usim.proofs.challenge.Statement.{statement}
@@ -27,6 +28,10 @@ module _ (tested : tie.After-is-valid) where
   abbrev autn : Octets
   autn = entry tested .args .autn .now
 
+  -- the type of the record tells the lengths of its parts
+  shaped : UsimShaped width usim
+  shaped = usim-shaped (entry tested .args .usim) _ (entry tested .good .0)
+
 valid : (c : tie.Else1) → validUsim width sets (usim (c .before)) ≡ true
 valid c = sym (c .before .is-valid .ensures) ∙ not-false _ (c .if1 .left)
 
@@ -34,7 +39,8 @@ returns : tie.Need-returns
 returns c =
     let tested = c .before .before in
     let bad : validUsim width sets (usim tested) ≡ false = sym (tested .is-valid .ensures) ∙ not-true _ (c .before .if1 .taken) in
-    refusal (usim tested) (rand tested) (autn tested) _ 1 (refused-1 width sets _ _ _ bad) (c .unchanged .ensures)
+    let answer = refusal (usim tested) (rand tested) (autn tested) _ 1 (refused-1 width sets _ _ _ bad) (c .unchanged .ensures) in
+    (answer .0, (answer .1, shaped tested))
 
 -- refusal 3 of a valid record
 another-length : (c : tie.Else1) → lengthsRight (rand (c .before)) (autn (c .before)) ≡ false
@@ -46,18 +52,22 @@ unfolding lengthsRight
 returns-2 c =
     let accepted = c .before .before in
     let tested = accepted .before in
+    let answer =
     refusal (usim tested) (rand tested) (autn tested) _ 3
     (another-length accepted (rw (ne-eqb _ _ (c .before .if2 .taken)) refl))
-    (c .unchanged2 .ensures)
+    (c .unchanged2 .ensures) in
+    (answer .0, (answer .1, shaped tested))
 
 returns-3 : tie.Need-returns-3
 unfolding lengthsRight
 returns-3 c =
     let long = c .before .before in
     let tested = long .before .before in
+    let answer =
     refusal (usim tested) (rand tested) (autn tested) _ 3
     (another-length (long .before) (rw (eq-eqb _ _ (long .if2 .left), ne-eqb _ _ (c .before .if3 .taken)) refl))
-    (c .unchanged3 .ensures)
+    (c .unchanged3 .ensures) in
+    (answer .0, (answer .1, shaped tested))
 
 -- from behind the two copies: no refusal applies
 abbrev unrefused : tie.After-sixteen2 → tie.Else3
@@ -73,8 +83,10 @@ returns-4 c =
     let known = long .before .before in
     let tested = known .before in
     let good : lengthsRight (rand tested) (autn tested) ≡ true = lengths-right _ _ (long .before .if2 .left) (long .if3 .left) in
+    let answer =
     answered (usim tested) (rand tested) (autn tested) _ _ (judged width sets _ _ _ (valid known) good)
-    (rw (lent .before .sixteen .ensures, lent .sixteen2 .ensures) at (c .authenticate .ensures))
+    (rw (lent .before .sixteen .ensures, lent .sixteen2 .ensures) at (c .authenticate .ensures)) in
+    (answer .0, (answer .1, shaped tested))
 
 pub challenge-spec : {M : Type 1} → statement M
 challenge-spec =

@@ -74,7 +74,7 @@ module _ (c : tie.After-challenge) where
   due h =
       let image = taken (measured c) in
       rw (← is-read (image .before) .read .ensures, eq-eqb _ 0 (image .if1 .left), sized)
-      (h ∙ handed-on _ _ _ _ _ (c .challenge .ensures .0) (c .challenge .ensures .1 .0))
+      (h ∙ handed-on _ _ _ _ _ (c .challenge .ensures .0) (c .challenge .ensures .1 .0 .0))
 
 returns-3 : tie.Need-returns-3
 returns-3 c =
@@ -90,7 +90,7 @@ hand-on-requires c κs =
     let image = taken (measured ask) in
     let valid = read-valid _ _ (is-read (image .before) .read .ensures) (image .if1 .left) in
     let answer = ask .challenge .ensures in
-    ((next-valid _ _ _ (valid .1) _ (answer .0) (answer .1 .0) (answer .1 .1), answer .1 .1), valid .0)
+    ((next-valid _ _ _ (valid .1) _ (answer .0) (answer .1 .0 .0) (answer .1 .0 .1), answer .1 .0 .1), valid .0)
 
 returns-4 : tie.Need-returns-4
 returns-4 c =
