@@ -1,2 +1,2 @@
 pub mod KeyExpansion
-pub mod NextRcon
+pub mod NextWords
