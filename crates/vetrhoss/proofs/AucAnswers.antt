@@ -1,7 +1,7 @@
 -- The centre's answer as the calls hand it on. Assumes nothing.
 use Prim.Native.Nat.{ℕ}
 use mathlib.Core.Bool.{true}
-use mathlib.Core.Path.{_≡_, refl, sym, ap, _∙_}
+use mathlib.Core.Path.{_≡_, refl}
 use lib.ListN.{length}
 use Rattle.octets.specs.Octets.{Octets}
 use Rattle.functions.specs.Sets.{sets}
@@ -15,9 +15,7 @@ use Rattle.vetrhoss.specs.Interface.{aucImageAfter, aucReturns}
 -- an image that was read has its length and a valid record
 pub read-valid : (x : Octets) (r : Read Auc) → r ≡ readAnswer (format width sets) x → r .refusal ≡ 0
     → (length x ≡ imageSize) × (validAuc width sets (r .contents) ≡ true)
-read-valid x r e none =
-    let sound = round-trips .sound x (sym (ap (λ (y : Read Auc). y .refusal) e) ∙ none) in
-    (sound .0, ap (λ (y : Read Auc). validAuc width sets (y .contents)) e ∙ sound .1)
+read-valid x r e none = rw e (round-trips .sound x (rw e at none))
 
 -- the code's answer is the one due
 pub handed-on : (image : Octets) (a due : AucAnswer) {result : ℕ} {next : Octets} → a ≡ due

@@ -1,21 +1,17 @@
 -- The card's answer as the call hands it on. Assumes nothing.
-use Prim.Native.Nat.{ℕ, _<_, _^_}
+use Prim.Native.Nat.{ℕ}
 use mathlib.Core.Bool.{true}
 use mathlib.Core.List.{[], _∷_}
-use mathlib.Core.Path.{_≡_, refl, sym, ap, _∙_}
+use mathlib.Core.Path.{_≡_, refl, ap, _∙_}
 use native.Mathlib.Omega.{arith}
 use denote.Enum.Declared.{tagOf}
 use types.Run.{OneOf, miss}
 use lib.ListN.{length}
 use Rattle.octets.specs.Octets.{Octets, decode}
 use Rattle.functions.specs.Sets.{sets}
-use Rattle.aka.specs.Functions.{Functions}
-use Rattle.aka.specs.Sequence.{limit, width, sqnBits}
-use Rattle.aka.specs.Usim.{Usim, UsimAnswer, validUsim, seqIn, indIn, sqnIn, answerWith, challenge}
-use Rattle.aka.specs.Usim.{Verdict, accepted, macFailure, syncFailure, refused}
-use Rattle.aka.proofs.Places.{within-set}
-use Rattle.aka.proofs.Sequence.{seq-le}
-use Rattle.aka.proofs.Verdicts.{valid-parts, answer-of, not-accepted-unchanged}
+use Rattle.aka.specs.Sequence.{width, FitsSqn}
+use Rattle.aka.specs.Usim.{Usim, UsimAnswer, Verdict, accepted, validUsim, sqnIn, challenge}
+use Rattle.aka.proofs.Verdicts as law
 use Rattle.usim_record.specs.declared.Answer.{Answer}
 use Rattle.usim_record.specs.declared.Verdict as declared
 use Rattle.usim_record.specs.declared.Verdict.the-variants.{Accepted, Sync, Mac, Refused}
@@ -29,9 +25,7 @@ use Rattle.vetrhoss.specs.Interface.{Returned, UsimOctets, usimImageAfte
 -- an image that was read has its length and a valid record
 pub read-valid : (x : Octets) (r : Read Usim) → r ≡ readAnswer (format width sets) x → r .refusal ≡ 0
     → (length x ≡ imageSize width) × (validUsim width sets (r .contents) ≡ true)
-read-valid x r e none =
-    let sound = round-trips .sound x (sym (ap (λ (y : Read Usim). y .refusal) e) ∙ none) in
-    (sound .0, ap (λ (y : Read Usim). validUsim width sets (y .contents)) e ∙ sound .1)
+read-valid x r e none = rw e (round-trips .sound x (rw e at none))
 
 -- ---- what is returned, as the code has it
 
@@ -72,37 +66,20 @@ module _ (card : Usim) (rand autn : Octets) where
   abbrev due : UsimAnswer
   due = challenge width sets card rand autn
 
-  abbrev F : Functions
-  F = sets .under (card .keys)
-
   -- the code's answer and SQN are the ones due
   pub handed-on : (lent : UsimOctets) (a : UsimAnswer) {sqn : ℕ} → a ≡ due → sqn ≡ sqnDue (a .verdict) card rand autn
       → usimReturns a sqn lent ≡ usimReturns due (sqnDue (due .verdict) card rand autn) lent
   handed-on lent a e s = rw (s, e) refl
 
-  -- an SQN of 48 bits leaves a valid record valid
-  module _ (valid : validUsim width sets card ≡ true) where
-    accepted-valid : due .verdict ≡ accepted → decode (sqnIn F rand autn) < 2 ^ sqnBits → validUsim width sets (due .usim) ≡ true
-    unfolding answerWith validUsim
-    accepted-valid e fits =
-        let parts = valid-parts width sets card valid in
-        let seq = seqIn width F rand autn in
-        let ind = indIn width F rand autn in
-        let below = seq-le width (omega arith) (decode (sqnIn F rand autn)) fits in
-        ap (λ (a : UsimAnswer). validUsim width sets (a .usim)) (answer-of width sets card rand autn accepted e)
-        ∙ rw (parts .0) (within-set (limit width) (card .places) ind seq below (parts .1))
+  -- an acceptance has the SQN of AUTN
+  sqn-fits : (v : Verdict) → v ≡ accepted → FitsSqn (sqnDue v card rand autn)
+      → FitsSqn (decode (sqnIn (sets .under (card .keys)) rand autn))
+  sqn-fits v q h = rw q at h
 
-    other-valid : (due .verdict ≡ accepted → ⊥) → validUsim width sets (due .usim) ≡ true
-    other-valid h = ap (validUsim width sets) (not-accepted-unchanged width sets card rand autn h) ∙ valid
-
-    stays-valid : (v : Verdict) → due .verdict ≡ v → sqnDue v card rand autn < 2 ^ sqnBits → validUsim width sets (due .usim) ≡ true
-    stays-valid accepted e fits = accepted-valid e fits
-    stays-valid macFailure e fits = other-valid (λ q. let z : _≡_ {A = ℕ} 0 1 = cc in omega arith)
-    stays-valid syncFailure e fits = other-valid (λ q. let z : _≡_ {A = ℕ} 0 1 = cc in omega arith)
-    stays-valid (refused number) e fits = other-valid (λ q. let z : _≡_ {A = ℕ} 0 1 = cc in omega arith)
-
-    pub next-valid : (a : UsimAnswer) {sqn : ℕ} → a ≡ due → sqn ≡ sqnDue (a .verdict) card rand autn → sqn < 2 ^ sqnBits
-        → validUsim width sets (a .usim) ≡ true
-    next-valid a e s fits =
-        ap (λ (b : UsimAnswer). validUsim width sets (b .usim)) e
-        ∙ stays-valid (a .verdict) (sym (ap (λ (b : UsimAnswer). b .verdict) e)) (rw s at fits)
+  -- the next record is valid
+  pub next-valid : validUsim width sets card ≡ true → (a : UsimAnswer) {sqn : ℕ} → a ≡ due → sqn ≡ sqnDue (a .verdict) card rand autn
+      → FitsSqn sqn → validUsim width sets (a .usim) ≡ true
+  next-valid valid a e s fits =
+      let verdict = ap (λ (b : UsimAnswer). b .verdict) e in
+      ap (λ (b : UsimAnswer). validUsim width sets (b .usim)) e
+      ∙ law.next-valid width sets card rand autn (omega arith) valid (λ q. sqn-fits (a .verdict) (verdict ∙ q) (rw s at fits))

@@ -103,11 +103,11 @@ usimReturns a sqn lent = record {
 -- a challenge of the card that an image holds
 unfoldable pub challengeCall : (lent : UsimOctets) (rand autn : Octets) → Returned UsimOctets
 challengeCall lent rand autn =
-    let read = usim.readAnswer (usim.format width sets) (lent .image) in
-    let answer = card.challenge width sets (read .usim) rand autn in
-    cond (not (eqb (read .refusal) 0)) (refused (read .refusal) lent)
+    let held = usim.readAnswer (usim.format width sets) (lent .image) in
+    let answer = card.challenge width sets (held .contents) rand autn in
+    cond (not (eqb (held .refusal) 0)) (refused (held .refusal) lent)
     (cond (not (answerSized (lent .res) (lent .ck) (lent .ik) (lent .auts))) (refused 3 lent)
-    (usimReturns answer (sqnDue (answer .verdict) (read .usim) rand autn) lent))
+    (usimReturns answer (sqnDue (answer .verdict) (held .contents) rand autn) lent))
 
 -- ---- the centre
 
@@ -134,9 +134,9 @@ aucReturns a image = record {
 -- the record that an image holds is asked
 unfoldable pub onImage : (lent : AucOctets) → (centre.Auc → centre.AucAnswer) → Returned AucOctets
 onImage lent ask =
-    let read = auc.readAnswer (auc.format width sets) (lent .image) in
-    cond (not (eqb (read .refusal) 0)) (refused (read .refusal) lent)
-    (aucReturns (ask (read .auc)) (lent .image))
+    let held = auc.readAnswer (auc.format width sets) (lent .image) in
+    cond (not (eqb (held .refusal) 0)) (refused (held .refusal) lent)
+    (aucReturns (ask (held .contents)) (lent .image))
 
 abbrev pub orderCall : (lent : AucOctets) (count : ℕ) (rands : Octets) → Returned AucOctets
 orderCall lent count rands = onImage lent (λ auc. centre.order width sets auc count rands (lent .batch))

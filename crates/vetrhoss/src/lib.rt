@@ -180,5 +180,5 @@ pub extern "C" fn vetrhoss_vector_at(batch: &[u8], k: u64) -> u64
     let Offset::At(at) = offset else {
         return 3;
     };
-    256 * (at as u64)
+    results::both(0, at as u64)
 }

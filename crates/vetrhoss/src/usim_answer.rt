@@ -5,11 +5,10 @@ use usim::Usim;
 use usim::Verdict;
 ghost use mathlib.Core.Bool.{true};
 ghost use mathlib.Core.Path.{_≡_};
-ghost use Prim.Native.Nat.{_<_, _^_};
 ghost use lib.ListN.{length};
 ghost use Rattle.functions.specs.Sets.{sets};
 ghost use Rattle.aka.specs.Usim.{validUsim};
-ghost use Rattle.aka.specs.Sequence.{width, sqnBits};
+ghost use Rattle.aka.specs.Sequence.{width, FitsSqn};
 ghost use Rattle.usim_record.specs.Views.{usimOf, verdictOf, sqnGiven};
 ghost use Rattle.usim_image.specs.Image.{image as usimImage, imageSize as usimImageSize};
 ghost use Rattle.vetrhoss.specs.Results.{verdictResult};
@@ -49,7 +48,7 @@ fn write_next(usim: Usim, image: &mut [u8], result: u64) -> u64
 
 // The image changes with an acceptance.
 pub fn hand_on(a: usim::Answer, image: &mut [u8]) -> u64
-    requires next { ⌜ (validUsim width sets (usimOf (a .usim)) ≡ true) × (sqnGiven (a .verdict) < 2 ^ sqnBits) ⌝ }
+    requires next { ⌜ (validUsim width sets (usimOf (a .usim)) ≡ true) × FitsSqn (sqnGiven (a .verdict)) ⌝ }
     requires size { ⌜ length (now image) ≡ usimImageSize width ⌝ }
     ensures { λ r. ⌜
         (r ≡ verdictResult (verdictOf (a .verdict)) (sqnGiven (a .verdict)))

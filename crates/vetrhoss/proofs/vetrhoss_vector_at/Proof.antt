@@ -37,13 +37,13 @@ returns c =
     let past = c .before .before in
     ap offsetResult (sym (ap offsetIn (c .enum-told .given .1)) ∙ past .offset-of .ensures)
 
-mul-result : tie.Need-mul-result
-mul-result c = omega (arith, inside c .at, inside c .place)
+both-requires : tie.Need-both-requires
+both-requires c κs = omega (arith, inside c .at, inside c .place)
 
 returns-2 : tie.Need-returns-2
 unfolding vectorAtCall
-returns-2 c = rw (found c) (omega arith)
+returns-2 c = c .both .ensures ∙ ap offsetResult (sym (found (c .before)))
 
 pub vetrhoss-vector-at-spec : {M : Type 1} → statement M
 vetrhoss-vector-at-spec =
-    tie.close (tie.spec (λ c κs. search needs) (λ c. search needs) (λ c. search needs) returns mul-result returns-2)
+    tie.close (tie.spec (λ c κs. search needs) (λ c. search needs) (λ c. search needs) returns both-requires returns-2)

@@ -1,8 +1,8 @@
 -- `hand_on` goes by the verdict. Assumes nothing.
-use Prim.Native.Nat.{ℕ, _<_, _^_}
+use Prim.Native.Nat.{ℕ}
 use mathlib.Core.Path.{_≡_, refl, _∙_}
 use native.Mathlib.Omega.{arith}
-use Rattle.aka.specs.Sequence.{sqnBits}
+use Rattle.aka.specs.Sequence.{FitsSqn}
 use Rattle.usim_record.specs.declared.Verdict.{Verdict}
 use Rattle.usim_record.specs.declared.Verdict.the-variants.{Accepted}
 use Rattle.usim_record.specs.Views.{sqnGiven}
@@ -20,7 +20,7 @@ accepted c = c .before .before
 abbrev entry : tie.After-verdict → tie.Start
 entry c = c .before .before .before .before
 
-fits : {v : Verdict} {sqn : ℕ} → v ≡ Accepted sqn → sqnGiven v < 2 ^ sqnBits → sqn < 2 ^ sqnBits
+fits : {v : Verdict} {sqn : ℕ} → v ≡ Accepted sqn → FitsSqn (sqnGiven v) → FitsSqn sqn
 fits e h = rw e at h
 
 both-requires : tie.Need-both-requires
