@@ -7,6 +7,7 @@ use native.Mathlib.Nat.{mul-div-right, mul-mod-right}
 use native.Mathlib.Omega.{arith}
 use borrow.Author.Tests.{eqb-true, leb-true, ltb-true, le-leb, lt-ltb}
 use lib.Dec.{eqb, ltb, leb}
+use Rattle.octets.proofs.Absurd.{zero-not-one}
 use Rattle.aka.specs.Layout.{vectorSize, mostVectors, isPlace, vectorOffset}
 use Rattle.aka.specs.AucLaws.{PlaceOf}
 
@@ -55,4 +56,4 @@ module _ (size k : ℕ) where
           let p = place-of t in
           let at : vectorSize * k ≡ offset = cc in
           record { at = omega arith; fits = omega (arith, p .whole, p .inside); place = omega (arith, p .most, p .inside) }
-      go false t q = let z : _≡_ {A = ℕ} 0 1 = cc in absurd (omega arith)
+      go false t q = zero-not-one (cc)

@@ -8,6 +8,7 @@ use native.Mathlib.Omega.{arith}
 use borrow.Author.Tests.{ltb-true, ltb-false}
 use lib.Dec.{ltb}
 use Rattle.octets.specs.Octets.{Octets, equal}
+use Rattle.octets.proofs.Absurd.{zero-not-one}
 use Rattle.octets.proofs.Strings.{equal-true}
 use Rattle.aka.specs.Layout.{randAt}
 use Rattle.aka.specs.Auc.{Pair, unequal, equalAt, orElse, pairWith, pairFrom, equalPair}
@@ -21,7 +22,7 @@ second-of : {a b i j : ℕ} → equalAt a b ≡ equalAt i j → b ≡ j
 second-of e = cc
 
 no-pair : {i j : ℕ} → unequal ≡ equalAt i j → ⊥
-no-pair e = let z : _≡_ {A = ℕ} 0 1 = cc in omega arith
+no-pair e = zero-not-one (cc)
 
 not-before : (j b : ℕ) → (j < b → ⊥) → b ≤ j
 not-before j b h = go (ltb j b) refl

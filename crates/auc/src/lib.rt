@@ -101,7 +101,14 @@ fn told(kept: bool) -> Outcome
 }
 
 // The answer to RAND and AUTS, where refusals 1 to 4 do not apply.
-fn resume(auc: Auc, n: u8, rand: [u8; 16], auts: [u8; 14], rands: &[u8], batch: &mut [u8]) -> Answer
+fn resume(
+    auc: Auc,
+    n: u8,
+    rand: [u8; aka::RAND_SIZE],
+    auts: [u8; aka::AUTS_SIZE],
+    rands: &[u8],
+    batch: &mut [u8],
+) -> Answer
     requires room { ⌜ (n ≤ mostVectors) × (auc .seqhe ≤ limit width) × (auc .next < indices width) ⌝ }
     requires lent { ⌜ (length (now rands) ≡ randSize * n) × (length (now batch) ≡ vectorSize * n) ⌝ }
     ensures { λ r. ⌜

@@ -18,7 +18,7 @@ ghost use Rattle.auc_record.specs.Checks.{Found, firstRefusals};
 // `seqhe` is SEQ_HE, `next` the next index.
 pub struct Auc {
     pub keys: Keys,
-    pub amf: [u8; 2],
+    pub amf: [u8; aka::AMF_SIZE],
     pub seqhe: u64,
     pub next: u8,
 }
@@ -46,7 +46,7 @@ pub enum Checked {
 }
 
 // A new record: SEQ_HE and the next index are 0.
-pub fn new(keys: Keys, amf: [u8; 2]) -> Auc
+pub fn new(keys: Keys, amf: [u8; aka::AMF_SIZE]) -> Auc
     ensures { λ r. ⌜ aucOf r ≡ newAuc (keysOf keys) amf ⌝ }
 {
     Auc {

@@ -5,7 +5,7 @@ use functions::Keys;
 ghost use Prim.Native.Nat.{_+_, _*_, _≤_, _<_};
 ghost use mathlib.Core.List.{_++_};
 ghost use mathlib.Core.Path.{_≡_};
-ghost use lib.ListN.{length, take};
+ghost use lib.ListN.{length, take, drop};
 ghost use Rattle.aes_tables.specs.RoundTable.{IsRoundTable};
 ghost use Rattle.functions.specs.Challenge.{keysOf, IsSchedule};
 ghost use Rattle.functions.specs.Sets.{sets};
@@ -17,7 +17,7 @@ ghost use Rattle.batches.specs.Views.{countedBy, offsetIn};
 // What the vectors of a batch are made with: their SEQ follow `from`, `next` is the index of all.
 pub struct Series {
     pub keys: Keys,
-    pub amf: [u8; 2],
+    pub amf: [u8; aka::AMF_SIZE],
     pub from: u64,
     pub next: u8,
 }
@@ -28,7 +28,7 @@ pub enum Offset {
     Nowhere,
 }
 
-// Puts the vector at place k behind those before it.
+// Puts the vector at place k into the batch. What stands before and behind stays.
 fn put_at(
     table: &[u32; 256],
     schedule: &[u32; 44],
@@ -41,8 +41,9 @@ fn put_at(
     requires room { ⌜ (s .from + 1 + k ≤ limit width) × (s .next < indices width) ⌝ }
     requires lent { ⌜ (randSize * k + randSize ≤ length (now rands)) × (vectorSize * k + vectorSize ≤ length (now batch)) ⌝ }
     ensures { λ _. ⌜
-        take (vectorSize * k + vectorSize) (now (batch .exit))
+        now (batch .exit)
         ≡ take (vectorSize * k) (now (batch .entry)) ++ writeVector (vectorFrom width sets (countedBy s) (s .from) (now (rands .entry)) k)
+        ++ drop (vectorSize * k + vectorSize) (now (batch .entry))
         ⌝ }
 {
     let keys = s.keys;

@@ -3,7 +3,7 @@ use functions::Challenge;
 ghost use Prim.Native.Nat.{_+_, _≤_};
 ghost use mathlib.Core.List.{_++_};
 ghost use mathlib.Core.Path.{_≡_};
-ghost use lib.ListN.{length, take};
+ghost use lib.ListN.{length, take, drop};
 ghost use Rattle.octets.specs.Octets.{Octets};
 ghost use Rattle.aes_tables.specs.RoundTable.{IsRoundTable};
 ghost use Rattle.functions.specs.Challenge.{Prepared};
@@ -17,10 +17,10 @@ fn autn(
     table: &[u32; 256],
     schedule: &[u32; 44],
     c: Challenge,
-    ak: [u8; 6],
-    sqn: [u8; 6],
-    amf: [u8; 2],
-) -> [u8; 16]
+    ak: [u8; aka::SQN_SIZE],
+    sqn: [u8; aka::SQN_SIZE],
+    amf: [u8; aka::AMF_SIZE],
+) -> [u8; aka::AUTN_SIZE]
     requires { ⌜ IsRoundTable (now table) ⌝ }
     ensures { λ r. ⌜
         ((keys : KeysOf) (rand : Octets) → Prepared keys rand (now (schedule .entry)) c → ak ≡ sets .under keys .f5 rand
@@ -31,30 +31,32 @@ fn autn(
     tokens::autn(sqn, ak, amf, mac)
 }
 
-// Puts `part` into a batch, from `at` on. What stands before stays.
+// Puts `part` into a batch, from `at` on. What stands before and behind stays.
 fn put(batch: &mut [u8], at: usize, part: &[u8])
     requires { ⌜ at + length (now part) ≤ length (now batch) ⌝ }
     ensures { λ _. ⌜
-        take (at + length (now (part .entry))) (now (batch .exit)) ≡ take at (now (batch .entry)) ++ now (part .entry)
+        now (batch .exit)
+        ≡ take at (now (batch .entry)) ++ now (part .entry) ++ drop (at + length (now (part .entry))) (now (batch .entry))
         ⌝ }
 {
     bytes::copy(part, &mut batch[at..]);
 }
 
-// Puts the parts of a vector into a batch, from `at` on. What stands before stays.
+// Puts the parts of a vector into a batch, from `at` on. What stands before and behind stays.
 fn put_parts(
     batch: &mut [u8],
     at: usize,
-    rand: [u8; 16],
-    xres: [u8; 8],
-    ck: [u8; 16],
-    ik: [u8; 16],
-    autn: [u8; 16],
+    rand: [u8; aka::RAND_SIZE],
+    xres: [u8; aka::RES_SIZE],
+    ck: [u8; aka::CK_SIZE],
+    ik: [u8; aka::IK_SIZE],
+    autn: [u8; aka::AUTN_SIZE],
 )
     requires { ⌜ at + vectorSize ≤ length (now batch) ⌝ }
     ensures { λ _. ⌜
-        take (at + vectorSize) (now (batch .exit))
+        now (batch .exit)
         ≡ take at (now (batch .entry)) ++ writeVector (record { rand = rand; xres = xres; ck = ck; ik = ik; autn = autn })
+        ++ drop (at + vectorSize) (now (batch .entry))
         ⌝ }
 {
     put(batch, at, &rand);
@@ -64,23 +66,23 @@ fn put_parts(
     put(batch, at + aka::AUTN_AT, &autn);
 }
 
-// Puts the vector of a RAND taken up into a batch, from `at` on. What stands before stays; nothing is said of what stands behind, where the
-// next vector goes.
+// Puts the vector of a RAND taken up into a batch, from `at` on. What stands before and behind stays.
 pub fn put_vector(
     table: &[u32; 256],
     schedule: &[u32; 44],
     c: Challenge,
-    sqn: [u8; 6],
-    amf: [u8; 2],
-    rand: [u8; 16],
+    sqn: [u8; aka::SQN_SIZE],
+    amf: [u8; aka::AMF_SIZE],
+    rand: [u8; aka::RAND_SIZE],
     batch: &mut [u8],
     at: usize,
 )
     requires { ⌜ IsRoundTable (now table) × (at + vectorSize ≤ length (now batch)) ⌝ }
     ensures { λ _. ⌜
         ((keys : KeysOf) → Prepared keys rand (now (schedule .entry)) c
-        → take (at + vectorSize) (now (batch .exit))
-        ≡ take at (now (batch .entry)) ++ writeVector (makeVector (sets .under keys) sqn amf rand))
+        → now (batch .exit)
+        ≡ take at (now (batch .entry)) ++ writeVector (makeVector (sets .under keys) sqn amf rand)
+        ++ drop (at + vectorSize) (now (batch .entry)))
         ⌝ }
 {
     let both = functions::f2_f5(table, schedule, c);

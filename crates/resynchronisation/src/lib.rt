@@ -33,7 +33,12 @@ fn in_range(seqhe: u64, seqms: u64, n: u8) -> bool
 }
 
 // SQN_MS, which AUTS conceals with AK*: f5* of RAND.
-fn sqn_ms(table: &[u32; 256], schedule: &[u32; 44], c: Challenge, auts: [u8; 14]) -> [u8; 6]
+fn sqn_ms(
+    table: &[u32; 256],
+    schedule: &[u32; 44],
+    c: Challenge,
+    auts: [u8; aka::AUTS_SIZE],
+) -> [u8; aka::SQN_SIZE]
     requires { ⌜ IsRoundTable (now table) ⌝ }
     ensures { λ r. ⌜
         ((keys : KeysOf) (rand : Octets) → Prepared keys rand (now (schedule .entry)) c → r ≡ sqnMsIn (sets .under keys) rand auts)
@@ -47,8 +52,8 @@ fn mac_s_right(
     table: &[u32; 256],
     schedule: &[u32; 44],
     c: Challenge,
-    sqn: [u8; 6],
-    auts: [u8; 14],
+    sqn: [u8; aka::SQN_SIZE],
+    auts: [u8; aka::AUTS_SIZE],
 ) -> bool
     requires { ⌜ IsRoundTable (now table) ⌝ }
     ensures { λ r. ⌜
@@ -57,7 +62,7 @@ fn mac_s_right(
         ⌝ }
 {
     let mac = tokens::mac_s_in(auts);
-    let expected = functions::f1s(table, schedule, c, sqn, [0; 2]);
+    let expected = functions::f1s(table, schedule, c, sqn, [0; aka::AMF_SIZE]);
     tokens::equal_without_early_end(mac, expected)
 }
 
@@ -66,8 +71,8 @@ pub fn decide(
     table: &[u32; 256],
     schedule: &[u32; 44],
     keys: Keys,
-    rand: [u8; 16],
-    auts: [u8; 14],
+    rand: [u8; aka::RAND_SIZE],
+    auts: [u8; aka::AUTS_SIZE],
     seqhe: u64,
     n: u8,
 ) -> Ruling

@@ -1,11 +1,9 @@
--- `fill` is the batch. The loop's invariant: the vectors before place k stand at the front. Assumes nothing.
-use Prim.Native.Nat.{ℕ, _+_, _-_, _*_, _≤_}
-use mathlib.Core.List.{_++_}
-use mathlib.Core.Path.{_≡_, refl, sym, ap, _∙_}
+-- `fill` is the batch. The loop's invariant: the vectors before place k are filled in. Assumes nothing.
+use Prim.Native.Nat.{_+_, _-_, _*_, _≤_}
+use mathlib.Core.Path.{_≡_, refl, ap, _∙_}
 use native.Mathlib.Omega.{arith}
-use lib.ListN.{length, take}
-use lib.Seq.{take-all}
-use Rattle.octets.specs.Octets.{Octets}
+use lib.ListN.{length}
+use Rattle.octets.proofs.PartByPart.{Filled, put-next, filled-all}
 use Rattle.functions.specs.Sets.{sets}
 use Rattle.aka.specs.Layout.{vectorSize, writeVector}
 use Rattle.aka.specs.Sequence.{width}
@@ -18,7 +16,7 @@ use Rattle.batches.proofs.fill.Tie as tie
 
 abbrev Inv-loop : tie.InvT-loop
 Inv-loop table schedule s rands n batch₀ k₀ batch k =
-    (k ≤ n) × (length batch ≡ length batch₀) × (take (vectorSize * k) batch ≡ batchFrom width sets (countedBy s) (s .from) rands k)
+    (k ≤ n) × (length batch ≡ length batch₀) × Filled batch₀ (batchFrom width sets (countedBy s) (s .from) rands k) (vectorSize * k) batch
 
 abbrev μ-loop : tie.MeasureT-loop
 μ-loop table schedule s rands n batch₀ k₀ batch k = n - k
@@ -37,7 +35,8 @@ turn c = c .before .before .before
 loop-holds : tie.Need-loop-holds Inv-loop μ-loop
 loop-holds c =
     let args = c .before .before .args in
-    (omega arith, refl, sym (batch-none width sets (countedBy (args .s)) (args .s .from) (args .rands .now)))
+    let none = batch-none width sets (countedBy (args .s)) (args .s .from) (args .rands .now) in
+    (omega arith, refl, rw none (record { size = refl; is = refl }))
 
 put-at-requires : tie.Need-put-at-requires Inv-loop μ-loop
 put-at-requires c κs =
@@ -56,22 +55,19 @@ loop-again c =
     let auc = countedBy (args .s) in
     let from = args .s .from in
     let rands = args .rands .now in
-    let further : vectorSize * (k + 1) ≡ vectorSize * k + vectorSize = omega arith in (
-      omega arith,
-      put .put-at .kept .1 .1 .1 .1 .1 .0 ∙ at .loop .inv .1,
-      ap (λ (m : ℕ). take m (put .put-at .last .1 .1 .1 .1 .1 .0)) further
-          ∙ put .put-at .ensures
-          ∙ ap (λ (l : Octets). l ++ writeVector (vectorFrom width sets auc from rands k)) (at .loop .inv .2)
-          ∙ sym (batch-next width sets auc from rands k),
-    )
+    let further : vectorSize * k + vectorSize ≡ vectorSize * (k + 1) = omega arith in
+    let size = put .put-at .kept .1 .1 .1 .1 .1 .0 ∙ at .loop .inv .1 in
+    let vector = writeVector (vectorFrom width sets auc from rands k) in
+    let room : vectorSize * k + vectorSize ≤ length (args .batch .now) = omega (arith, entry at .pre .1 .1 .1) in
+    let next = put-next vector vectorSize (at .loop .inv .2) (put .put-at .ensures) size room in
+    (omega arith, size, rw (batch-next width sets auc from rands k, ← further) next)
 
 returns : tie.Need-returns Inv-loop μ-loop
 returns c =
     let at = c .before in
     let args = entry at .args in
     let end : at .loop .k ≡ args .n = omega arith in
-    sym (take-all (vectorSize * at .loop .k) (at .loop .batch) (omega (arith, end, at .loop .inv .1, entry at .pre .1 .1 .1)))
-    ∙ at .loop .inv .2
+    filled-all (at .loop .inv .2) (omega (arith, end, entry at .pre .1 .1 .1))
     ∙ ap (batchFrom width sets (countedBy (args .s)) (args .s .from) (args .rands .now)) end
 
 pub fill-spec : {M : Type 1} → statement M

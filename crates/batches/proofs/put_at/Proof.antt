@@ -1,9 +1,9 @@
--- `put_at` is the vector at place k, put behind those before it. Assumes nothing.
-use Prim.Native.Nat.{ℕ, _*_}
+-- `put_at` is the vector at place k, put into the batch. Assumes nothing.
+use Prim.Native.Nat.{_+_, _*_}
 use mathlib.Core.List.{_++_}
 use mathlib.Core.Path.{_≡_, ap₂, _∙_}
 use native.Mathlib.Nat.{add-sub-cancel-left}
-use lib.ListN.{take}
+use lib.ListN.{take, drop}
 use Rattle.octets.specs.Octets.{Octets}
 use Rattle.functions.specs.Challenge.{keysOf}
 use Rattle.functions.specs.Sets.{sets}
@@ -40,8 +40,9 @@ returns c =
     let args = entry (read sqn) .args in
     let keys = keysOf (args .s .keys) in
     let before = take (vectorSize * args .k) (args .batch .now) in
+    let behind = drop (vectorSize * args .k + vectorSize) (args .batch .now) in
     put .put-vector .ensures keys (prepared .prepare .ensures)
-    ∙ ap₂ (λ (x y : Octets). before ++ writeVector (makeVector (sets .under keys) x (args .s .amf) y))
+    ∙ ap₂ (λ (x y : Octets). before ++ writeVector (makeVector (sets .under keys) x (args .s .amf) y) ++ behind)
     (sqn .sqn-octets .ensures) (rand-is (read sqn))
 
 pub put-at-spec : {M : Type 1} → statement M

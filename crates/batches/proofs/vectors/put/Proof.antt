@@ -1,7 +1,7 @@
--- `put` fills one part. Assumes nothing.
+-- `put` puts one part. Assumes nothing.
 use mathlib.Core.Path.{refl}
 use native.Mathlib.Omega.{arith}
-use Rattle.octets.proofs.Filling.{put-part}
+use Rattle.octets.proofs.PartByPart.{put-at}
 use borrow.Author.Needs.{needs}
 use Rattle.batches.proofs.vectors.put.Statement.{statement}
 use Rattle.batches.proofs.vectors.put.Tie as tie
@@ -13,7 +13,7 @@ returns : tie.Need-returns
 returns c =
     let copied = c .before .before in
     let args = entry copied .args in
-    rw (copied .copy .ensures .1) (put-part (args .batch .now) (args .part .now) _ _ (args .at) _ refl (omega arith))
+    put-at (args .part .now) (args .batch .now) (args .at) _ refl (copied .copy .ensures .1) (omega arith)
 
 pub put-spec : {M : Type 1} → statement M
 put-spec =
