@@ -1,5 +1,6 @@
 -- `put` is the definition's: a number past its range is refused. Assumes nothing.
 use mathlib.Core.Path.{sym, ap, _∙_}
+use native.Mathlib.Omega.{arith}
 use borrow.Author.Tests.{le-leb, lt-leb, lt-ltb, le-ltb}
 use Rattle.aka.specs.Sequence.{indices, limit, width}
 use Rattle.bench_writer.specs.Replies.{putOk}
@@ -13,20 +14,24 @@ answered desk = record { desk = desk; reply = putOk }
 
 returns : tie.Need-returns
 unfolding put refusedOr
-returns c = c .refused .ensures ∙ sym (rw (lt-leb _ (limit width) (c .before .if1 .taken)))
+returns c =
+    let test = c .before in
+    c .refused .ensures ∙ sym (rw (lt-leb (test .before .args .seqhe) (limit width) (omega arith)))
 
 returns-2 : tie.Need-returns-2
 unfolding put refusedOr
 returns-2 c =
     let test = c .before in
-    c .refused2 .ensures ∙ sym (rw (le-leb _ (limit width) (test .before .if1 .left), le-ltb _ (indices width) (test .if2 .taken)))
+    let args = test .before .before .args in
+    c .refused2 .ensures ∙ sym (rw (le-leb (args .seqhe) (limit width) (omega arith), le-ltb (args .next) (indices width) (omega arith)))
 
 returns-3 : tie.Need-returns-3
 unfolding put refusedOr
 returns-3 c =
     let test = c .before in
+    let args = test .before .before .args in
     ap answered (c .with-counters .ensures)
-    ∙ sym (rw (le-leb _ (limit width) (test .before .if1 .left), lt-ltb _ (indices width) (test .if2 .left)))
+    ∙ sym (rw (le-leb (args .seqhe) (limit width) (omega arith), lt-ltb (args .next) (indices width) (omega arith)))
 
 pub put-spec : {M : Type 1} → statement M
 put-spec =

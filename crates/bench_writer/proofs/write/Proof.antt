@@ -2,7 +2,8 @@
 use mathlib.Core.Path.{sym}
 use borrow.Author.Tests.{lt-ltb}
 use native.Mathlib.Omega.{arith}
-use Rattle.bench_writer.specs.Replies.{written}
+use lib.ListN.{length}
+use Rattle.bench_writer.specs.Replies.{room, written}
 use Rattle.bench_writer.proofs.Front.{placed-front}
 use borrow.Author.Needs.{needs}
 use Rattle.bench_writer.proofs.write.Statement.{statement}
@@ -10,7 +11,7 @@ use Rattle.bench_writer.proofs.write.Tie as tie
 
 returns : tie.Need-returns
 unfolding written
-returns c = sym (rw (lt-ltb _ 96 (c .if1 .taken)))
+returns c = sym (rw (lt-ltb (length (c .before .before .args .out .now)) room (omega arith)))
 
 returns-2 : tie.Need-returns-2
 returns-2 c = placed-front _ (omega arith) (c .before .before .put-reply .ensures)

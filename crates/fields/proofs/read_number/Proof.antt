@@ -99,7 +99,9 @@ returns : tie.Need-returns Inv-loop μ-loop
 returns c = refused _ (empty _ (c .before .if1 .taken)) (c .no-number .ensures)
 
 returns-2 : tie.Need-returns-2 Inv-loop μ-loop
-returns-2 c = refused _ (long _ (c .before .if2 .taken)) (c .no-number2 .ensures)
+returns-2 c =
+    let t = c .before .before .before .before .args .text .now in
+    refused t (long t (omega arith)) (c .no-number2 .ensures)
 
 loop-holds : tie.Need-loop-holds Inv-loop μ-loop
 unfolding decimal
@@ -108,12 +110,12 @@ loop-holds c = (omega arith, omega arith, refl, refl)
 returns-3 : tie.Need-returns-3 Inv-loop μ-loop
 returns-3 c =
     let test = c .before in
-    refused _ (no-digit-at (test .before) (low-digit _ (test .if3 .taken))) (c .no-number3 .ensures)
+    refused _ (no-digit-at (test .before) (low-digit _ (omega (arith, test .if3 .taken)))) (c .no-number3 .ensures)
 
 returns-4 : tie.Need-returns-4 Inv-loop μ-loop
 returns-4 c =
     let test = c .before in
-    refused _ (no-digit-at (test .before .before) (high-digit _ (test .if4 .taken))) (c .no-number4 .ensures)
+    refused _ (no-digit-at (test .before .before) (high-digit _ (omega (arith, test .if4 .taken)))) (c .no-number4 .ensures)
 
 returns-5 : tie.Need-returns-5 Inv-loop μ-loop
 returns-5 c =

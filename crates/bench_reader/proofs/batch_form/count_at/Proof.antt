@@ -13,13 +13,13 @@ returns : tie.Need-returns
 returns c = (count-past _ _ (c .if1 .taken), omega arith)
 
 returns-2 : tie.Need-returns-2
-returns-2 c = (count-low _ _ (c .if2 .taken), omega arith)
+returns-2 c = (count-low _ _ (omega arith), omega arith)
 
 returns-3 : tie.Need-returns-3
-returns-3 c = (count-high _ _ (c .if3 .taken), omega arith)
+returns-3 c = (count-high _ _ (omega arith), omega arith)
 
 returns-4 : tie.Need-returns-4
-returns-4 c = (count-is _ _ (c .before .if2 .left) (c .if3 .left), omega arith)
+returns-4 c = (count-is _ _ (omega arith) (omega arith), omega arith)
 
 pub count-at-spec : {M : Type 1} → statement M
 count-at-spec =

@@ -1,5 +1,6 @@
 -- `read_key` is `readKey`: each test that fails makes the line a bad one. Assumes nothing.
 use mathlib.Core.Path.{sym, _∙_}
+use native.Mathlib.Omega.{arith}
 use borrow.Author.Tests.{not-true, not-false}
 use Rattle.octets.specs.Octets.{zeros}
 use Rattle.fields.proofs.FieldLaws.{low-digit, high-digit, is-digit, field-there, field-octets}
@@ -27,10 +28,10 @@ returns : tie.Need-returns
 returns c = c .word-alone .ensures ∙ key-length _ (c .before .if1 .taken)
 
 returns-2 : tie.Need-returns-2
-returns-2 c = c .word-alone2 .ensures ∙ key-set _ (low-digit _ (c .before .if2 .taken))
+returns-2 c = c .word-alone2 .ensures ∙ key-set _ (low-digit _ (omega (arith, c .before .if2 .taken)))
 
 returns-3 : tie.Need-returns-3
-returns-3 c = c .word-alone3 .ensures ∙ key-set _ (high-digit _ (c .before .if3 .taken))
+returns-3 c = c .word-alone3 .ensures ∙ key-set _ (high-digit _ (omega (arith, c .before .if3 .taken)))
 
 returns-4 : tie.Need-returns-4
 returns-4 c =
@@ -58,7 +59,7 @@ returns-7 c =
     let amf-true = not-false _ (c .if6 .left) in
     let opc-true = not-false _ (amf .before .before .if5 .left) in
     let k-true = not-false _ (opc .before .before .if4 .left) in
-    key-read line (set .before .if1 .left) (is-digit _ (digit .before .if2 .left) (digit .if3 .left))
+    key-read line (set .before .if1 .left) (is-digit _ (omega (arith, digit .before .if2 .left)) (omega (arith, digit .if3 .left)))
     (field-there (zeros keySize) kAt line (k .hex-field .ensures .0) k-true)
     (field-there (zeros keySize) opcAt line (opc .hex-field2 .ensures .0) opc-true)
     (field-there (zeros amfSize) keyAmfAt line (amf .hex-field3 .ensures .0) amf-true)
