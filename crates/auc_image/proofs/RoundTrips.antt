@@ -37,7 +37,7 @@ module _ (w : ℕ) (filled : seqBits w + w ≡ sqnBits) where
   length-image : (auc : Auc) → AucShaped auc → length (image w auc) ≡ imageSize
   unfolding image
   length-image auc shaped =
-      simp length-append (omega (arith, length-head (auc .keys) (shaped .keys), shaped .amf, length-packed auc))
+      simp (length-append, length-digits) (omega (arith, length-head (auc .keys) (shaped .keys), shaped .amf))
 
   read-image : (auc : Auc) → AucShaped auc → auc .keys .set < nibble → auc .seqhe < 2 ^ seqBits w → auc .next < 2 ^ w
       → readImage w (image w auc) ≡ auc
@@ -45,8 +45,8 @@ module _ (w : ℕ) (filled : seqBits w + w ≡ sqnBits) where
   read-image auc shaped few seq index = λ i. record {
     keys = read-head (auc .keys) (amf ++ packed auc) few (shaped .keys) i;
     amf = (past first (amf ++ packed auc) amfAt 0 amfSize size ∙ front amf (packed auc) amfSize (shaped .amf)) i;
-    seqhe = read-first (seqBits w) w filled (auc .seqhe) (auc .next) counters last seq i;
-    next = read-second (seqBits w) w filled (auc .seqhe) (auc .next) counters last index i;
+    seqhe = read-first (seqBits w) w filled counters (auc .seqhe) (auc .next) seq index last i;
+    next = read-second (seqBits w) w filled counters (auc .seqhe) (auc .next) seq index last i;
   }
     where
       first : Octets

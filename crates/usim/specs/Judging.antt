@@ -15,7 +15,7 @@ use Rattle.usim_record.specs.Views.{answerOf, SqnTold}
 
 -- MAC is right, and SQN and RES are those of the challenge
 pub record MacVerified (keys : Keys) (rand autn : Octets) (schedule : List ℕ) (c : Challenge) (n : ℕ) (r : Octets) : Type 0 where
-  pub started : Prepared keys rand schedule c
+  pub prepared : Prepared keys rand schedule c
   pub mac : macRight (sets .under keys) rand autn ≡ true
   pub sqn : n ≡ decode (sqnIn (sets .under keys) rand autn)
   pub fits : FitsSqn n

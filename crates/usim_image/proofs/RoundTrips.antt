@@ -40,7 +40,7 @@ module _ (w : ℕ) (filled : seqBits w * indices w ≡ 8 * placesSize w) where
 
   length-image : (usim : Usim) → Shaped (usim .keys) → length (image w usim) ≡ imageSize w
   unfolding image
-  length-image usim shaped = simp length-append (omega (arith, length-head (usim .keys) shaped, length-packed usim))
+  length-image usim shaped = simp (length-append, length-digits) (omega (arith, length-head (usim .keys) shaped))
 
   places-back : (l : Octets) → length l ≡ indices w → Below base l
       → digits base (indices w) (decode (encode (placesSize w) (number base l))) ≡ l

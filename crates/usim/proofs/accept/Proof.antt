@@ -13,7 +13,7 @@ returns c = λ rand autn v.
     let cipher-key = c .before in
     let keys = keysOf (cipher-key .before .args .usim .keys) in
     record {
-      answer = rw (v .sqn, v .res, cipher-key .f3 .ensures ∙ gives (v .started) .f3, c .f4 .ensures ∙ gives (v .started) .f4) refl;
+      answer = rw (v .sqn, v .res, cipher-key .f3 .ensures ∙ gives (v .prepared) .f3, c .f4 .ensures ∙ gives (v .prepared) .f4) refl;
       sqn = (v .sqn, v .fits);
     }
 

@@ -1,13 +1,13 @@
--- `authenticate` makes the round table, the key schedule and the start of a challenge once. Assumes nothing.
+-- `authenticate` makes the round table, the key schedule and the challenge once. Assumes nothing.
 use borrow.Author.Needs.{needs}
 use Rattle.usim.proofs.authenticate.Statement.{statement}
 use Rattle.usim.proofs.authenticate.Tie as tie
 
-abbrev started : tie.After-judge → tie.After-prepare
-started c = c .before .before .before
+abbrev prepared : tie.After-judge → tie.After-prepare
+prepared c = c .before .before .before
 
 returns : tie.Need-returns
-returns c = c .judge .ensures _ (started c .prepare .ensures)
+returns c = c .judge .ensures _ (prepared c .prepare .ensures)
 
 pub authenticate-spec : {M : Type 1} → statement M
 authenticate-spec =

@@ -23,7 +23,7 @@ computed c = c .before .before .before .before
 abbrev entry : tie.After-mac-right → tie.Start
 entry c = computed c .before
 
--- what is known once MAC was compared, of the challenge that was started
+-- what is known once MAC was compared, of the challenge that was prepared
 module _ (tested : tie.After-mac-right) (rand : Octets) where
   abbrev start : tie.Start
   start = entry tested
@@ -60,7 +60,7 @@ returns-2 c = λ rand s.
     let tested = right .before in
     c .judge-sqn .ensures rand (autn tested rand)
     (record {
-      started = s;
+      prepared = s;
       mac = mac-is tested rand s (not-false _ (right .if1 .left));
       sqn = numbered .sqn-number .ensures .0 ∙ ap decode (sqn-is tested rand s);
       fits = numbered .sqn-number .ensures .1;

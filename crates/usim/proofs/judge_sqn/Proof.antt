@@ -43,7 +43,7 @@ returns c = λ rand autn v.
     let usim = usimOf (entry tested .args .usim) in
     rw (judged tested rand autn v false (not-true _ (stale .if1 .taken)))
     (unchanged-for usim rand autn _ Sync _ refl refl refl (
-      c .unchanged .ensures .0 ∙ ap (unchanged syncFailure usim) (made .auts .ensures (usim .keys) rand (v .started)),
+      c .unchanged .ensures .0 ∙ ap (unchanged syncFailure usim) (made .auts .ensures (usim .keys) rand (v .prepared)),
       c .unchanged .ensures .1,
     ))
 
