@@ -15,7 +15,7 @@ use Rattle.aka.specs.Usim.{Usim, UsimAnswer, seqMs, syncFailure, unchang
 use Rattle.aka.specs.Auc.{AucAnswer, kept, reset, seqAt, indAt, batchFrom, inRange, keptOrReset, macSRight, seqMsIn, makeVector}
 use Rattle.aka.specs.Auc.{defaultCount, afterBatch, resync}
 use Rattle.aka.specs.Demand3.{Setting, Shapes, Call, AnsweredCall, Each, Promised, Premise, Conclusion, Demand3, OtherNotAccepted}
-use Rattle.aka.specs.Demand3.{n, failure, renewal, answered, answersTo}
+use Rattle.aka.specs.Demand3.{n, failure, resynced, answered, answersTo}
 use Rattle.aka.proofs.Places.{within}
 use Rattle.aka.proofs.Tokens.{sqnOctets}
 use Rattle.aka.proofs.Failures.{autsOf, auts-is-long, auts-is-right, auts-has}
@@ -86,13 +86,13 @@ module _ (w : ℕ) (hw : w ≤ 48) (family : Family) (lawful : Lawful family) (s
       from-bounds (s .auc .seqhe) ms N (limit w) (omega (arith, few)) (p .room-ms) (p .room-he)
 
   -- so it sends the batch counted from `st`
-  renewal-is : renewal w family s ≡ record {
+  resynced-is : resynced w family s ≡ record {
     outcome = cond (inRange (s .auc .seqhe) ms N) kept reset;
     n = N;
     auc = afterBatch w (s .auc) st N;
     batch = batchFrom w family (s .auc) st (s .rands) N;
   }
-  renewal-is =
+  resynced-is =
       ap (λ (a : UsimAnswer). resync w family (s .auc) (s .count) (s .rands) (s .buffer) (s .rand) (a .auts)) failure-is
       ∙ resync-given w family (s .auc) (s .count) (s .rands) (s .buffer)
       (p .auc-valid) (p .count) (p .rands) (p .buffer) (p .unequal-rands) (s .rand) auts rand-size
@@ -101,12 +101,12 @@ module _ (w : ℕ) (hw : w ≤ 48) (family : Family) (lawful : Lawful family) (s
       ∙ rw has
 
   abbrev batch : Octets
-  batch = renewal w family s .batch
+  batch = resynced w family s .batch
 
   vectors : (k : ℕ) → k < N
       → vectorAt batch k ≡ makeVector F (sqnOctets w (seqAt st k) (indAt (s .auc) k)) (s .auc .amf) (randAt (s .rands) k)
   vectors k h =
-      ap (λ (a : AucAnswer). vectorAt (a .batch) k) renewal-is
+      ap (λ (a : AucAnswer). vectorAt (a .batch) k) resynced-is
       ∙ batch-vector w family (s .auc) L′ (shapes .auc .amf) st (s .rands) N (p .rands) k h
       ∙ ap (λ G. makeVector G (sqnOctets w (seqAt st k) (indAt (s .auc) k)) (s .auc .amf) (randAt (s .rands) k)) same
 
@@ -125,10 +125,10 @@ module _ (w : ℕ) (hw : w ≤ 48) (family : Family) (lawful : Lawful family) (s
   }
 
   -- SEQ_HE is ahead of SEQ_MS by the vectors that follow
-  seqhe-is : renewal w family s .auc .seqhe ≡ st + N
-  seqhe-is = ap (λ (a : AucAnswer). a .auc .seqhe) renewal-is
+  seqhe-is : resynced w family s .auc .seqhe ≡ st + N
+  seqhe-is = ap (λ (a : AucAnswer). a .auc .seqhe) resynced-is
 
-  promised : (c : AnsweredCall) → Counted w F batch N (seqAt st) c → Promised w F batch N (renewal w family s .auc .seqhe) c
+  promised : (c : AnsweredCall) → Counted w F batch N (seqAt st) c → Promised w F batch N (resynced w family s .auc .seqhe) c
   promised c x = record {
     accepts = x .accepts;
     ahead = λ k e. rw seqhe-is (omega (arith, x .inside k e, x .number k e));
@@ -150,7 +150,7 @@ module _ (w : ℕ) (hw : w ≤ 48) (family : Family) (lawful : Lawful family) (s
 
   conclusion : Conclusion w family s
   conclusion = record {
-    sent = subst (λ (a : AucAnswer). (a .outcome ≡ kept) ⊎ (a .outcome ≡ reset)) (sym renewal-is)
+    sent = subst (λ (a : AucAnswer). (a .outcome ≡ kept) ⊎ (a .outcome ≡ reset)) (sym resynced-is)
         (kept-or-reset (inRange (s .auc .seqhe) ms N));
     all = λ calls others. each-map promised (answered w family s calls)
         (subst (λ (u : Usim). Goal u calls) (sym (ap (λ (a : UsimAnswer). a .usim) failure-is)) (counted calls) others);

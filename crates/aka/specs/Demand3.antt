@@ -127,8 +127,8 @@ module _ (w : ℕ) (family : Family) (s : Setting) where
   failure = challenge w family (s .usim) (s .rand) (s .autn)
 
   -- the AuC's answer to its AUTS
-  abbrev pub renewal : AucAnswer
-  renewal = resync w family (s .auc) (s .count) (s .rands) (s .buffer) (s .rand) (failure .auts)
+  abbrev pub resynced : AucAnswer
+  resynced = resync w family (s .auc) (s .count) (s .rands) (s .buffer) (s .rand) (failure .auts)
 
   pub record Premise : Type 0 where
     -- valid records
@@ -149,14 +149,14 @@ module _ (w : ℕ) (family : Family) (s : Setting) where
 
   -- the list starts from the record that the synchronisation failure left
   abbrev pub answered : List Call → List AnsweredCall
-  answered calls = answersTo w family (renewal .batch) n (failure .usim) none calls
+  answered calls = answersTo w family (resynced .batch) n (failure .usim) none calls
 
   pub record Conclusion : Type 0 where
     -- the AuC sends a batch
-    pub sent : (renewal .outcome ≡ kept) ⊎ (renewal .outcome ≡ reset)
+    pub sent : (resynced .outcome ≡ kept) ⊎ (resynced .outcome ≡ reset)
     -- 'For every such list'
     pub all : (calls : List Call) → Each OtherNotAccepted (answered calls)
-        → Each (Promised w (family .under (s .usim .keys)) (renewal .batch) n (renewal .auc .seqhe)) (answered calls)
+        → Each (Promised w (family .under (s .usim .keys)) (resynced .batch) n (resynced .auc .seqhe)) (answered calls)
 
 -- for every width of the index, every lawful family, and every setting that meets the premise
 abbrev pub Demand3 : Type 0

@@ -1,5 +1,5 @@
--- What the contracts of `usim::challenge` and `auc::resynchronise` say of an answer is what `Running` takes of it: a contract that said less would
--- be refused here. Assumes nothing.
+-- What the contracts of `usim::challenge` and `auc::resynchronise` say of an answer is what `Running` takes of it: a contract that said
+-- less would be refused here. Assumes nothing.
 use contract.Lifetimes.{Lfts}
 use borrow.Fn.Kinds.{endedOf}
 use borrow.Fn.World.{ArgsD, ResD}
@@ -11,13 +11,29 @@ use Rattle.usim.proofs.challenge.Reads as challengeReads
 use Rattle.auc.proofs.resynchronise as resynchronise
 use Rattle.auc.proofs.resynchronise.Kinds as resynchroniseKinds
 use Rattle.auc.proofs.resynchronise.Reads as resynchroniseReads
-use Rattle.demand3.specs.Running.{Answered, Renewed}
+use Rattle.octets.specs.Octets.{Octets}
+use Rattle.demand3.specs.Running.{Answered, Resynchronised}
 
-pub card : (κs : Lfts 2) (a : ArgsD challenge.signature κs) (answer : ResD challenge.signature κs) (s : AtExit (endedOf 2 challengeKinds.ps challengeKinds.r) κs)
+pub card : (κs : Lfts 2) (a : ArgsD challenge.signature κs) (answer : ResD challenge.signature κs)
+    (s : AtExit (endedOf 2 challengeKinds.ps challengeKinds.r) κs)
     → challengeReads.Post κs a answer s → Answered (a .0) (now (a .1 .0)) (now (a .1 .1 .0)) answer
-card κs a answer s p = p .0
+card κs a answer s p = record { answer-is = p .0; shape = p .1 .1 }
 
-pub centre : (κs : Lfts 4) (a : ArgsD resynchronise.signature κs) (answer : ResD resynchronise.signature κs)
-    (s : AtExit (endedOf 4 resynchroniseKinds.ps resynchroniseKinds.r) κs) → resynchroniseReads.Post κs a answer s
-    → Renewed (a .0) (a .1 .0) (now (a .1 .1 .1 .1 .0)) (now (a .1 .1 .1 .1 .1 .0)) (now (a .1 .1 .0)) (now (a .1 .1 .1 .0)) answer (now (s .1 .1 .1 .1 .1 .0))
-centre κs a answer s p = p
+-- its arguments: the record, the count, RAND, AUTS, the RANDs and the buffer
+module _ (κs : Lfts 4) (a : ArgsD resynchronise.signature κs) where
+  abbrev rand : Octets
+  rand = now (a .1 .1 .0)
+
+  abbrev auts : Octets
+  auts = now (a .1 .1 .1 .0)
+
+  abbrev rands : Octets
+  rands = now (a .1 .1 .1 .1 .0)
+
+  abbrev buffer : Octets
+  buffer = now (a .1 .1 .1 .1 .1 .0)
+
+  pub centre : (answer : ResD resynchronise.signature κs) (s : AtExit (endedOf 4 resynchroniseKinds.ps resynchroniseKinds.r) κs)
+      → resynchroniseReads.Post κs a answer s
+      → Resynchronised (a .0) (a .1 .0) rands buffer rand auts answer (now (s .1 .1 .1 .1 .1 .0))
+  centre answer s p = record { answer-is = p .0; shape = p .1 }

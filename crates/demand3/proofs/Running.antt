@@ -16,7 +16,7 @@ use Rattle.aka.specs.Sequence.{width}
 use Rattle.usim_record.specs.declared.Usim.{Usim}
 use Rattle.usim_record.specs.Views as cardViews
 use Rattle.auc_record.specs.Views as centreViews
-use Rattle.demand3.specs.Running.{Setting, Ran, Call, Chain, callOf, counted, settingOf, Demand3}
+use Rattle.demand3.specs.Running.{Setting, Ran, Call, Chain, callOf, counted, settingOf, Conclusion, Demand3}
 
 -- the answers of the code are those of the definitions
 same-answers : (batch : Octets) (n : ℕ) (u : Usim) (last : Option ℕ) (calls : List Call) → Chain u calls
@@ -25,45 +25,60 @@ unfolding Chain counted aka.answersTo
 same-answers batch n u last [] c = refl
 same-answers batch n u last (call ∷ rest) c =
     let place = aka.placeOf batch n last (callOf call) in
-    let after = aka.latest place last in
-    ap (λ (l : List aka.AnsweredCall). record { place = place; last = after; answer = cardViews.answerOf (call .answer) } ∷ l)
-    (same-answers batch n (call .answer .usim) after rest (c .1))
+    let now = aka.latest place last in
+    ap (λ (l : List aka.AnsweredCall). record { place = place; last = now; answer = cardViews.answerOf (call .answer) } ∷ l)
+    (same-answers batch n (call .answer .usim) now rest (c .1))
     ∙ ap
-    (λ (x : usim.UsimAnswer). record { place = place; last = after; answer = x } ∷ aka.answersTo width sets batch n (x .usim) after (map callOf rest))
-    (c .0)
+    (λ (x : usim.UsimAnswer).
+    record { place = place; last = now; answer = x } ∷ aka.answersTo width sets batch n (x .usim) now (map callOf rest))
+    (c .0 .answer-is)
 
 -- what `aka` concludes, of any two answers
-pub record Of (F : Functions) (n : ℕ) (failure : usim.UsimAnswer) (renewal : AucAnswer) : Type 0 where
-  pub sent : (renewal .outcome ≡ kept) ⊎ (renewal .outcome ≡ reset)
+pub record Of (F : Functions) (n : ℕ) (failure : usim.UsimAnswer) (resynced : AucAnswer) : Type 0 where
+  pub sent : (resynced .outcome ≡ kept) ⊎ (resynced .outcome ≡ reset)
   pub all : (calls : List aka.Call)
-      → aka.Each aka.OtherNotAccepted (aka.answersTo width sets (renewal .batch) n (failure .usim) none calls)
-      → aka.Each (aka.Promised width F (renewal .batch) n (renewal .auc .seqhe)) (aka.answersTo width sets (renewal .batch) n (failure .usim) none calls)
+      → aka.Each aka.OtherNotAccepted (aka.answersTo width sets (resynced .batch) n (failure .usim) none calls)
+      → aka.Each (aka.Promised width F (resynced .batch) n (resynced .auc .seqhe))
+      (aka.answersTo width sets (resynced .batch) n (failure .usim) none calls)
 
-of-definitions : (s : Setting) → aka.Premise width sets (settingOf s)
-    → Of (sets .under (keysOf (s .usim .keys))) (resyncCount (s .count)) (aka.failure width sets (settingOf s)) (aka.renewal width sets (settingOf s))
-of-definitions s p = let c = demand3-holds (settingOf s) p in record { sent = c .sent; all = c .all }
+module _ (s : Setting) (ran : Ran s) (p : aka.Premise width sets (settingOf s)) where
+  abbrev F : Functions
+  F = sets .under (keysOf (s .usim .keys))
 
--- and so of the code's own answers
-of-code : (s : Setting) → Ran s → aka.Premise width sets (settingOf s)
-    → Of (sets .under (keysOf (s .usim .keys))) (resyncCount (s .count)) (cardViews.answerOf (s .failure)) (centreViews.answerOf (s .renewal) (s .batch))
-of-code s ran p =
-    let F = sets .under (keysOf (s .usim .keys)) in
-    let n = resyncCount (s .count) in
-    let f = cardViews.answerOf (s .failure) in
-    subst (λ (r : AucAnswer). Of F n f r) (sym (ran .renewal))
-    (subst
-    (λ (x : usim.UsimAnswer). Of F n x (resync width sets (centreViews.aucOf (s .auc)) (s .count) (s .rands) (s .buffer) (s .rand) (x .auts)))
-    (sym (ran .failure)) (of-definitions s p))
+  abbrev n : ℕ
+  n = resyncCount (s .count)
+
+  abbrev failure : usim.UsimAnswer
+  failure = cardViews.answerOf (s .failure)
+
+  -- the centre's answer to an AUTS
+  abbrev fromAuts : Octets → AucAnswer
+  fromAuts auts = resync width sets (centreViews.aucOf (s .auc)) (s .count) (s .rands) (s .buffer) (s .rand) auts
+
+  -- the types of the code have seen to it
+  shapes : aka.Shapes width (settingOf s)
+  shapes = record { usim = ran .failure .shape; auc = ran .resynced .shape }
+
+  of-definitions : Of F n (aka.failure width sets (settingOf s)) (aka.resynced width sets (settingOf s))
+  of-definitions = let c = demand3-holds (settingOf s) shapes p in record { sent = c .sent; all = c .all }
+
+  -- and so of the code's own answers
+  of-code : Of F n failure (centreViews.answerOf (s .resynced) (s .batch))
+  of-code =
+      subst (λ (r : AucAnswer). Of F n failure r) (sym (ran .resynced .answer-is))
+      (subst (λ (x : usim.UsimAnswer). Of F n x (fromAuts (x .auts))) (sym (ran .failure .answer-is)) of-definitions)
+
+  conclusion : Conclusion s
+  conclusion =
+      let Promised = aka.Promised width F (s .batch) n (s .resynced .auc .seqhe) in
+      record {
+        sent = of-code .sent;
+        all = λ calls chain other.
+            let e = same-answers (s .batch) n (s .failure .usim) none calls chain in
+            subst (λ (l : List aka.AnsweredCall). aka.Each Promised l) (sym e)
+            (of-code .all (map callOf calls)
+            (subst (λ (l : List aka.AnsweredCall). aka.Each aka.OtherNotAccepted l) e other));
+      }
 
 pub running : Demand3
-running s ran p =
-    let c = of-code s ran p in
-    let n = resyncCount (s .count) in
-    let Holds = aka.Promised width (sets .under (keysOf (s .usim .keys))) (s .batch) n (s .renewal .auc .seqhe) in
-    record {
-      sent = c .sent;
-      all = λ calls chain other.
-          let e = same-answers (s .batch) n (s .failure .usim) none calls chain in
-          subst (λ (l : List aka.AnsweredCall). aka.Each Holds l) (sym e)
-          (c .all (map callOf calls) (subst (λ (l : List aka.AnsweredCall). aka.Each aka.OtherNotAccepted l) e other));
-    }
+running = conclusion

@@ -1,5 +1,5 @@
--- The theorem is not empty. Document 01's sample run is over, its challenge comes to the card again, and the centre has lost its record and begins
--- anew: SEQ_HE is behind and is reset. Assumes nothing.
+-- The theorem is not empty. Document 01's sample run is over, its challenge comes to the card again, and the centre has lost its record
+-- and begins anew: SEQ_HE is behind and is reset. Assumes nothing.
 use Prim.Native.Nat.{ℕ}
 use mathlib.Core.Bool.{true}
 use mathlib.Core.List.{List, [], _∷_, _++_}
@@ -11,8 +11,10 @@ use Rattle.functions.specs.Sets.{sets, testOutputs, baseOf, outputs, outputsOf}
 use Rattle.functions.specs.SampleRun.{k, z, amf, autn, auts}
 use Rattle.functions.specs.declared.Keys.{Keys}
 use Rattle.aka.specs.Layout.{writeAutn, readAutn, writeAuts, readAuts, writeVector, readVector, joined}
-use Rattle.aka.specs.Usim.{challenge, verdictOn, judgement, answerWith, validUsim, lengthsRight, macRight, fresh, highest, lowestIndex, allWithin, makeAuts}
-use Rattle.aka.specs.Auc.{validAuc, makeAutn, makeVector, batchFrom, pairWith, pairFrom, lentFor, lentAuts, unlessRefused, unlessPast, inRange, macSRight, autsOutcome, resyncOutcome, resync}
+use Rattle.aka.specs.Usim.{challenge, verdictOn, judgement, answerWith, validUsim, lengthsRight, macRight, fresh, highest, lowestIndex}
+use Rattle.aka.specs.Usim.{allWithin, makeAuts}
+use Rattle.aka.specs.Auc.{validAuc, makeAutn, makeVector, batchFrom, pairWith, pairFrom, lentFor, lentAuts, unlessRefused, unlessPast}
+use Rattle.aka.specs.Auc.{inRange, macSRight, autsOutcome, resyncOutcome, resync}
 use Rattle.aka.specs.Auc as auc
 use Rattle.aka.specs.Demand3 as aka
 use Rattle.aka.specs.Sequence.{width}
@@ -38,8 +40,8 @@ failure = record { verdict = Sync; usim = usim; res = zeros 8; ck = zeros 16; ik
 abbrev aucWith : (seqhe next : ℕ) → Auc
 aucWith seqhe next = record { keys = keys; amf = amf; seqhe = seqhe; next = next }
 
-abbrev renewal : centre.Answer
-renewal = record { outcome = Reset; n = 2; auc = aucWith 3 1 }
+abbrev resynced : centre.Answer
+resynced = record { outcome = Reset; n = 2; auc = aucWith 3 1 }
 
 -- two RANDs
 abbrev rands : Octets
@@ -58,23 +60,27 @@ lost = record {
   count = 2;
   rands = rands;
   buffer = buffer;
-  renewal = renewal;
+  resynced = resynced;
   batch = resync width sets (aucOf (aucWith 0 0)) 2 rands buffer z auts .batch;
 }
 
 ran : Ran lost
-unfolding sets testOutputs baseOf outputs outputsOf challenge verdictOn judgement answerWith validUsim lengthsRight macRight fresh highest lowestIndex allWithin makeAuts makeAutn writeAutn readAutn writeAuts readAuts xor equal digits spelt pairFrom pairWith validAuc auc.answerWith lentFor lentAuts unlessRefused unlessPast inRange macSRight autsOutcome resyncOutcome resync
+unfolding sets testOutputs baseOf outputs outputsOf challenge verdictOn judgement answerWith validUsim lengthsRight macRight fresh
+    highest lowestIndex allWithin makeAuts makeAutn writeAutn readAutn writeAuts readAuts xor equal digits spelt pairFrom pairWith
+    validAuc auc.answerWith lentFor lentAuts unlessRefused unlessPast inRange macSRight autsOutcome resyncOutcome resync
     batchFrom makeVector writeVector readVector joined turnLeft
-ran = record { failure = refl; renewal = refl }
+ran = record {
+  failure = record { answer-is = refl; shape = record { keys = record { k = refl; opc = refl }; places = refl } };
+  resynced = record { answer-is = refl; shape = record { keys = record { k = refl; opc = refl }; amf = refl } };
+}
 
 premise : aka.Premise width sets (settingOf lost)
-unfolding sets testOutputs baseOf outputs outputsOf challenge verdictOn judgement answerWith validUsim lengthsRight macRight fresh highest lowestIndex allWithin makeAuts makeAutn writeAutn readAutn writeAuts readAuts xor equal digits spelt pairFrom pairWith validAuc turnLeft
+unfolding sets testOutputs baseOf outputs outputsOf challenge verdictOn judgement answerWith validUsim lengthsRight macRight fresh
+    highest lowestIndex allWithin makeAuts makeAutn writeAutn readAutn writeAuts readAuts xor equal digits spelt pairFrom pairWith
+    validAuc turnLeft
 premise = record {
   usim-valid = refl;
-  usim-places = refl;
-  usim-keys = record { k = refl; opc = refl };
   auc-valid = refl;
-  auc-amf = refl;
   same-keys = refl;
   count = omega arith;
   rands = refl;

@@ -1,5 +1,5 @@
--- Demand 3 of the running code. `aka` states it of the definitions; here it names the records that `usim::challenge` and `auc::resynchronise`
--- take and return, at the index width and the function sets that they use. Assumes nothing.
+-- Demand 3 of the running code. `aka` states it of the definitions; here it names the records that `usim::challenge` and
+-- `auc::resynchronise` take and return, at the index width and the function sets that they use. Assumes nothing.
 use Prim.Native.Nat.{ℕ}
 use mathlib.Core.List.{List, [], _∷_}
 use mathlib.Core.Logic.{_⊎_}
@@ -8,8 +8,8 @@ use mathlib.Core.Path.{_≡_}
 use Rattle.octets.specs.Octets.{Octets}
 use Rattle.functions.specs.Sets.{sets}
 use Rattle.functions.specs.Challenge.{keysOf}
-use Rattle.aka.specs.Auc.{kept, reset, resyncCount, resync}
-use Rattle.aka.specs.Usim.{challenge}
+use Rattle.aka.specs.Auc.{AucShaped, kept, reset, resyncCount, resync}
+use Rattle.aka.specs.Usim.{UsimShaped, challenge}
 use Rattle.aka.specs.Demand3 as aka
 use Rattle.aka.specs.Sequence.{width}
 use Rattle.usim_record.specs.declared.Usim.{Usim}
@@ -19,14 +19,15 @@ use Rattle.auc_record.specs.declared.Auc.{Auc}
 use Rattle.auc_record.specs.declared.Answer as centre
 use Rattle.auc_record.specs.Views as centreViews
 
--- what the contract of `usim::challenge` says of its answer
-abbrev pub Answered : Usim → (rand autn : Octets) → card.Answer → Type 0
-Answered usim rand autn answer = cardViews.answerOf answer ≡ challenge width sets (cardViews.usimOf usim) rand autn
+-- what the contract of `usim::challenge` says of its answer, and of the record that it was given
+pub record Answered (usim : Usim) (rand autn : Octets) (answer : card.Answer) : Type 0 where
+  pub answer-is : cardViews.answerOf answer ≡ challenge width sets (cardViews.usimOf usim) rand autn
+  pub shape : UsimShaped width (cardViews.usimOf usim)
 
--- what the contract of `auc::resynchronise` says of its answer, and of what the buffer holds at the end
-abbrev pub Renewed : Auc → (count : ℕ) (rands buffer rand auts : Octets) → centre.Answer → (batch : Octets) → Type 0
-Renewed auc count rands buffer rand auts answer batch =
-    centreViews.answerOf answer batch ≡ resync width sets (centreViews.aucOf auc) count rands buffer rand auts
+-- what the contract of `auc::resynchronise` says of its answer, of what the buffer holds at the end, and of the record that it was given
+pub record Resynchronised (auc : Auc) (count : ℕ) (rands buffer rand auts : Octets) (answer : centre.Answer) (batch : Octets) : Type 0 where
+  pub answer-is : centreViews.answerOf answer batch ≡ resync width sets (centreViews.aucOf auc) count rands buffer rand auts
+  pub shape : AucShaped (centreViews.aucOf auc)
 
 -- a card, a challenge to it and its answer; a centre, what is lent to its resynchronisation, and its answer
 pub record Setting : Type 0 where
@@ -38,7 +39,7 @@ pub record Setting : Type 0 where
   pub count : ℕ
   pub rands : Octets
   pub buffer : Octets
-  pub renewal : centre.Answer
+  pub resynced : centre.Answer
   pub batch : Octets  -- what the buffer holds at the end
 
 -- the records as the protocol has them
@@ -56,7 +57,7 @@ settingOf s = record {
 -- the failure's RAND and AUTS reach the centre unaltered
 pub record Ran (s : Setting) : Type 0 where
   pub failure : Answered (s .usim) (s .rand) (s .autn) (s .failure)
-  pub renewal : Renewed (s .auc) (s .count) (s .rands) (s .buffer) (s .rand) (s .failure .auts) (s .renewal) (s .batch)
+  pub resynced : Resynchronised (s .auc) (s .count) (s .rands) (s .buffer) (s .rand) (s .failure .auts) (s .resynced) (s .batch)
 
 -- a call of the card, with a RAND and AUTN of any octets, and its answer
 pub record Call : Type 0 where
@@ -90,13 +91,13 @@ module _ (s : Setting) where
 
   pub record Conclusion : Type 0 where
     -- the centre sends a batch
-    pub sent : (centreViews.outcomeOf (s .renewal .outcome) ≡ kept) ⊎ (centreViews.outcomeOf (s .renewal .outcome) ≡ reset)
+    pub sent : (centreViews.outcomeOf (s .resynced .outcome) ≡ kept) ⊎ (centreViews.outcomeOf (s .resynced .outcome) ≡ reset)
     -- for every list of calls that starts from the record that the failure left, each other call not being accepted:
     -- each call of the batch is accepted with its vector's XRES, CK and IK, SEQ_MS is its SEQ, and SEQ_HE is ahead as `aka`
     -- `Demand3.Promised` says
     pub all : (calls : List Call) → Chain (s .failure .usim) calls → aka.Each aka.OtherNotAccepted (answered calls)
         → aka.Each
-        (aka.Promised width (sets .under (keysOf (s .usim .keys))) (s .batch) (resyncCount (s .count)) (s .renewal .auc .seqhe))
+        (aka.Promised width (sets .under (keysOf (s .usim .keys))) (s .batch) (resyncCount (s .count)) (s .resynced .auc .seqhe))
         (answered calls)
 
 -- `aka.Premise`: valid records of the same keys, count and lent parts as named, room, and a synchronisation failure

@@ -18,7 +18,7 @@ use Rattle.aka.specs.Auc.{unequal, kept, reset, validAuc, makeAutn, makeVector,
 use Rattle.aka.specs.Auc.{lentAuts, unlessRefused, unlessPast, inRange, macSRight, autsOutcome, resyncOutcome, resync}
 use Rattle.aka.specs.Auc as auc
 use Rattle.aka.specs.Demand3.{Setting, Shapes, Call, AnsweredCall, Each, OtherNotAccepted, Premise, Conclusion, carries, placeFrom}
-use Rattle.aka.specs.Demand3.{answersTo, answered, failure, renewal}
+use Rattle.aka.specs.Demand3.{answersTo, answered, failure, resynced}
 use Rattle.aka.specs.Table.{Sample, Proper, Table, new, used}
 use Rattle.functions.specs.Sets.{testOutputs, baseOf, outputs, outputsOf, sets}
 use Rattle.functions.specs.SampleRun.{z, keys, amf}
@@ -50,7 +50,7 @@ lost seqhe = record {
 
 -- calls: the two vectors of the new batch in turn; between them the first once more, and an AUTN of no octets
 abbrev callOf : (k : ℕ) → Call
-callOf k = let v = vectorAt (renewal width sets (lost 1) .batch) k in record { rand = v .rand; autn = v .autn }
+callOf k = let v = vectorAt (resynced width sets (lost 1) .batch) k in record { rand = v .rand; autn = v .autn }
 
 abbrev walk : List AnsweredCall
 walk = answered width sets (lost 1) (callOf 0 ∷ callOf 0 ∷ record { rand = z; autn = [] } ∷ callOf 1 ∷ [])
@@ -93,9 +93,9 @@ pub record Computed : Type 0 where
   pub failed : (seqhe : ℕ) → failure width sets (lost seqhe) .verdict ≡ syncFailure
   pub unequal2 : equalPair (lost 1 .rands) 2 ≡ unequal
   pub valid12 : validAuc width sets (lost 12 .auc) ≡ true
-  pub kept12 : renewal width sets (lost 12) .outcome ≡ kept
+  pub kept12 : resynced width sets (lost 12) .outcome ≡ kept
   pub valid1 : validAuc width sets (lost 1 .auc) ≡ true
-  pub reset1 : renewal width sets (lost 1) .outcome ≡ reset
+  pub reset1 : resynced width sets (lost 1) .outcome ≡ reset
   -- the calls
   pub places : map (λ s. s .place) walk ≡ some 0 ∷ none ∷ none ∷ some 1 ∷ []
   pub verdicts : map (λ s. s .answer .verdict) walk ≡ accepted ∷ syncFailure ∷ refused 3 ∷ accepted ∷ []
