@@ -9,7 +9,7 @@ use native.Mathlib.Omega.{arith}
 use lib.ListN.{replicate, set}
 use Rattle.octets.specs.Octets.{Octets, xor, part, equal, turnLeft, encode, digits, spelt}
 use Rattle.octets.proofs.Absurd.{zero-not-one}
-use Rattle.aka.specs.Layout.{vectorAt, writeAutn, readAutn, writeAuts, readAuts, writeVector, readVector, joined}
+use Rattle.aka.specs.Layout.{vectorSize, vectorAt, writeAutn, readAutn, writeAuts, readAuts, writeVector, readVector, joined}
 use Rattle.aka.specs.Functions.{Keys, Shaped}
 use Rattle.aka.specs.Sequence.{sqnOf, width}
 use Rattle.aka.specs.Usim.{Usim, UsimAnswer, accepted, macFailure, syncFailure, refused, challenge, verdictOn, judgement, answerWith}
@@ -17,7 +17,8 @@ use Rattle.aka.specs.Usim.{validUsim, lengthsRight, macRight, fresh, highest, l
 use Rattle.aka.specs.Auc.{unequal, kept, reset, validAuc, makeAutn, makeVector, batchFrom, pairWith, pairFrom, equalPair, lentFor}
 use Rattle.aka.specs.Auc.{lentAuts, unlessRefused, unlessPast, inRange, macSRight, autsOutcome, resyncOutcome, resync}
 use Rattle.aka.specs.Auc as auc
-use Rattle.aka.specs.Demand3.{Setting, Shapes, Call, AnsweredCall, Each, OtherNotAccepted, Premise, Conclusion, carries, placeFrom}
+use Rattle.aka.specs.Demand3.{Setting, Shapes, Call, AnsweredCall, Each, OtherNotAccepted, Premise, Conclusion}
+use Rattle.aka.specs.Demand3.{carries, placeFrom, placeOf}
 use Rattle.aka.specs.Demand3.{answersTo, answered, failure, resynced}
 use Rattle.aka.specs.Table.{Sample, Proper, Table, new, used}
 use Rattle.functions.specs.Sets.{testOutputs, baseOf, outputs, outputsOf, sets}
@@ -143,6 +144,23 @@ computed = record {
   highest100 = refl;
   unequal5 = refl;
 }
+
+-- ---- the worked example of `Demand3.placeOf`: a batch of three, and calls with its vectors at places 1, 0 and 2
+
+abbrev three : Octets
+three = replicate vectorSize 0 ++ replicate vectorSize 1 ++ replicate vectorSize 2
+
+abbrev withVector : (k : ℕ) → Call
+withVector k = record { rand = vectorAt three k .rand; autn = vectorAt three k .autn }
+
+pub record PlacesCounted : Type 0 where
+  pub first : placeOf three 3 none (withVector 1) ≡ some 1
+  pub second : placeOf three 3 (some 1) (withVector 0) ≡ none
+  pub third : placeOf three 3 (some 1) (withVector 2) ≡ some 2
+
+pub places-counted : PlacesCounted
+unfolding placeFrom carries lengthsRight equal readVector
+places-counted = record { first = refl; second = refl; third = refl }
 
 -- ---- so the premises are met
 
