@@ -2,6 +2,7 @@
 use Prim.Native.Nat.{ℕ}
 use mathlib.Core.Bool.{true}
 use mathlib.Core.Path.{refl, _∙_}
+use native.Mathlib.Omega.{arith}
 use Rattle.octets.specs.Octets.{Octets}
 use Rattle.functions.specs.Sets.{sets}
 use Rattle.aka.specs.Sequence.{width}
@@ -55,8 +56,10 @@ request c = let k = checked c in asked (auc k) (count k) (rands k) (buffer k) tr
 generate-requires : tie.Need-generate-requires
 generate-requires c κs =
     let s = scheduled c in
-    let r = request (counted s) in
-    ((s .before .round-table .ensures, s .schedule .ensures), ((r .few, r .seqhe, r .next), ((r .rands-size, r .buffer-size), refl)))
+    let r = request (counted s) in (
+      (s .before .round-table .ensures, s .schedule .ensures),
+      ((r .few, omega (arith, r .seqhe), r .next), ((r .rands-size, r .buffer-size), refl)),
+    )
 
 returns : tie.Need-returns
 returns c =
