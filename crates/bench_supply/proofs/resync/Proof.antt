@@ -30,7 +30,7 @@ module _ (c : tie.After-resynchronise) where
   answer-is : answerOf (c .resynchronise .result) batch
       ≡ resyncAnswer desk (entry c .args .count) (entry c .args .rands .now) (entry c .args .batch .now)
   unfolding resyncAnswer
-  answer-is = c .resynchronise .ensures .0
+  answer-is = c .resynchronise .ensures
 
 returns : tie.Need-returns
 returns c =
