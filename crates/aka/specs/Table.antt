@@ -1,6 +1,6 @@
 -- The worked table of document 01 as one statement: eight challenges to a USIM ('What the card does'), four resynchronisations and
--- two orders ('What the centre does'). At document 01's width of the index; for every lawful family, and whatever the keys, AMF and RANDs are.
--- Assumes nothing.
+-- two orders ('What the centre does'). At document 01's width of the index; for every lawful family, and whatever the keys, AMF and RANDs
+-- are. Assumes nothing.
 use Prim.Native.Nat.{ℕ, _*_, _<_}
 use mathlib.Core.Bool.{true}
 use mathlib.Core.List.{List}
