@@ -8,6 +8,7 @@ use mathlib.Core.Path.{_≡_, refl, sym, ap, _∙_, subst}
 use native.Mathlib.Omega.{arith}
 use lib.ListN.{length}
 use Rattle.octets.specs.Octets.{Octets}
+use Rattle.octets.proofs.Absurd.{zero-not-one}
 use Rattle.aka.specs.Layout.{randSize, randAt, vectorAt}
 use Rattle.aka.specs.Functions.{Functions, Family, Lengths, Lawful}
 use Rattle.aka.specs.Sequence.{D, limit}
@@ -16,6 +17,7 @@ use Rattle.aka.specs.Auc.{AucAnswer, kept, reset, seqAt, indAt, batchFro
 use Rattle.aka.specs.Auc.{defaultCount, afterBatch, resync}
 use Rattle.aka.specs.Demand3.{Setting, Shapes, Call, AnsweredCall, Each, Promised, Premise, Conclusion, Demand3, OtherNotAccepted}
 use Rattle.aka.specs.Demand3.{n, failure, resynced, answered, answersTo}
+use Rattle.aka.proofs.Lists.{each-map}
 use Rattle.aka.proofs.Places.{within}
 use Rattle.aka.proofs.Tokens.{sqnOctets}
 use Rattle.aka.proofs.Failures.{autsOf, auts-is-long, auts-is-right, auts-has}
@@ -23,12 +25,6 @@ use Rattle.aka.proofs.Verdicts.{valid-parts, lengths-known, verdict-len
 use Rattle.aka.proofs.Batches.{count-le, length-rand, batch-vector}
 use Rattle.aka.proofs.Outcomes.{from-bounds, valid-iff, resync-given}
 use Rattle.aka.proofs.Rising.{Rising, Counted, all-calls}
-
--- ---- each call
-
-each-map : {P Q : AnsweredCall → Type 0} → ((c : AnsweredCall) → P c → Q c) → (l : List AnsweredCall) → Each P l → Each Q l
-each-map f [] h = tt
-each-map f (c ∷ l) h = (f c (h .0), each-map f l (h .1))
 
 -- ---- the theorem
 
@@ -56,7 +52,7 @@ module _ (w : ℕ) (hw : w ≤ 48) (family : Family) (lawful : Lawful family) (s
   rand-size : length (s .rand) ≡ randSize
   rand-size =
       lengths-known (s .rand) (s .autn)
-      (verdict-lengths w family (s .usim) (s .rand) (s .autn) syncFailure (λ number e. let z : _≡_ {A = ℕ} 0 1 = cc in omega arith)
+      (verdict-lengths w family (s .usim) (s .rand) (s .autn) syncFailure (λ number e. zero-not-one (cc))
       (p .failed))
       .0
 
@@ -152,7 +148,9 @@ module _ (w : ℕ) (hw : w ≤ 48) (family : Family) (lawful : Lawful family) (s
   conclusion = record {
     sent = subst (λ (a : AucAnswer). (a .outcome ≡ kept) ⊎ (a .outcome ≡ reset)) (sym resynced-is)
         (kept-or-reset (inRange (s .auc .seqhe) ms N));
-    all = λ calls others. each-map promised (answered w family s calls)
+    all = λ calls others.
+        each-map (Counted w F batch N (seqAt st)) (Promised w F batch N (resynced w family s .auc .seqhe)) promised
+        (answered w family s calls)
         (subst (λ (u : Usim). Goal u calls) (sym (ap (λ (a : UsimAnswer). a .usim) failure-is)) (counted calls) others);
   }
 

@@ -1,3 +1,4 @@
+pub mod Lists
 pub mod Layouts
 pub mod Sequence
 pub mod Places

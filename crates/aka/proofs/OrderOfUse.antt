@@ -24,15 +24,12 @@ use Rattle.aka.specs.VlrLaws.{placeAt, Shaped, termsOf, Due, given, noth
 use Rattle.aka.specs.OrderOfUse.{Phase, idle, asked, resyncing, History, nothingYet, isIn, isUnused, unusedFrom, unused, oldest}
 use Rattle.aka.specs.OrderOfUse.{unanswered, enters, requests, adds, Handled, isTaken, after, stateOf, vectorsAt, outOf}
 use Rattle.aka.specs.OrderOfUse.{recordOf, OfVector, Gives, Rising, Meets, InOrder, answers, OrderOfUse}
+use Rattle.aka.proofs.Lists.{each-map}
 use Rattle.aka.proofs.Held.{zeros-are, part-before}
 use Rattle.aka.proofs.VlrRecords.{valid-true, true-valid, new-valid, new-shaped}
 use Rattle.aka.proofs.VlrLaws.{laws}
 
 -- ---- lists
-
-each-map : {A : Type 0} (P Q : A → Type 0) → ((x : A) → P x → Q x) → (l : List A) → Each P l → Each Q l
-each-map P Q f [] e = tt
-each-map P Q f (x ∷ rest) e = (f x (e .0), each-map P Q f rest (e .1))
 
 -- p, p + 1, .., n of them
 unfoldable upFrom : (p n : ℕ) → List ℕ

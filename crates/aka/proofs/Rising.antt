@@ -8,6 +8,7 @@ use mathlib.Core.Path.{_≡_, refl, sym, ap, _∙_, subst, subst₂}
 use native.Mathlib.Omega.{arith}
 use lib.ListN.{length, set, length-set}
 use Rattle.octets.specs.Octets.{Octets, equal}
+use Rattle.octets.proofs.Absurd.{zero-not-one}
 use Rattle.octets.proofs.Strings.{equal-true}
 use Rattle.aka.specs.Layout.{Vector, amfSize, randSize, vectorAt}
 use Rattle.aka.specs.Functions.{Functions, Family, Lengths}
@@ -47,7 +48,7 @@ some-inj : {j k : ℕ} → some j ≡ some k → j ≡ k
 some-inj e = cc
 
 not-some : {k : ℕ} → none ≡ some k → ⊥
-not-some e = let z : _≡_ {A = ℕ} 0 1 = cc in omega arith
+not-some e = zero-not-one (cc)
 
 found : (batch : Octets) (call : Call) (k left j : ℕ) → placeFrom batch call k left ≡ some j
     → (k ≤ j) × (j < k + left) × (carries batch call j ≡ true)

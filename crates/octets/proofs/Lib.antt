@@ -6,7 +6,6 @@ pub mod Tables
 pub mod Ranges
 pub mod Parts
 pub mod Walks
-pub mod Filling
 pub mod Copies
 pub mod Refusals
 pub mod PartByPart
