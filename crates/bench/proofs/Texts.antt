@@ -4,8 +4,7 @@ use lib.ListN.{length, take, drop}
 use lib.Seq.{take-append-seam}
 use Rattle.octets.specs.Octets.{Octets, zeros}
 use Rattle.bench_writer.specs.Replies.{textOf, written}
-use Rattle.bench_core.specs.Bench.{Bench, step}
-use Rattle.bench_core.specs.Bench.{Stepped, stepped}
+use Rattle.bench_core.specs.Bench.{Bench, Stepped, step, stepped}
 
 module _ (bench : Bench) (line : Octets) {s : Stepped} (e : s ≡ stepped bench line (zeros 96)) where
   pub bench-is : s .bench ≡ step bench line .bench

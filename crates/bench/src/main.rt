@@ -1,47 +1,66 @@
 // The bench: a card, a centre record and a node, driven by the lines of the standard input. Each line is answered by one line.
 use bench_core::Bench;
-ghost use mathlib.Core.Path.{_≡_};
-ghost use Rattle.console.specs.Waiting.{afterPut, bufferOf};
-ghost use Rattle.bench_writer.specs.Replies.{textOf};
-ghost use Rattle.bench_core.specs.Bench.{step};
+use console::Progress;
+ghost use Prim.Native.Nat.{ℕ, _≤_, _<_};
+ghost use mathlib.Core.List.{List};
+ghost use lib.ListN.{length};
+ghost use Rattle.console.specs.Turns.{AnsweredIf, Gives, Ran, standingOf};
+ghost use Rattle.bench_reader.specs.Commands.{longest};
+ghost use Rattle.bench_core.specs.Bench.{newBench};
 ghost use Rattle.bench_core.specs.Views.{benchOf};
+ghost use Rattle.bench.specs.Program.{lineAnswer};
 
-// The bench after a line, and how many bytes wait in the output buffer.
-pub struct Answered {
+// The bench, and how far the program is.
+pub struct Turn {
     pub bench: Bench,
-    pub used: usize,
+    pub progress: Progress,
 }
 
-// Puts the answer to a line into the output buffer.
-fn answer(bench: Bench, line: &[u8], out: &mut [u8], used: usize) -> Answered
-    ensures bench { λ r. ⌜ benchOf (r .bench) ≡ step (benchOf bench) (now (line .entry)) .bench ⌝ }
-    ensures bytes { λ r. ⌜ bufferOf (r .used) (now (out .exit)) ≡ afterPut (now (out .entry)) used (textOf (step (benchOf bench) (now (line .entry)) .reply)) ⌝ }
+// Answers the line where it is whole. The buffer of answers has room for two.
+fn answer(bench: Bench, line: &[u8], out: &mut [u8], p: Progress) -> Turn
+    requires { ⌜ 192 ≤ length (now out) ⌝ }
+    ensures { λ r. ⌜
+        ((piece : List ℕ) → AnsweredIf (p .ready) (Gives lineAnswer) (length (now (out .entry)))
+        (benchOf bench) (standingOf piece (now (line .entry)) (now (out .entry)) p)
+        (benchOf (r .bench)) (standingOf piece (now (line .entry)) (now (out .exit)) (r .progress)))
+        ⌝ }
 {
+    if !p.ready {
+        return Turn { bench, progress: p };
+    }
     let mut text = [0u8; 96];
-    let stepped = bench_core::step(bench, line, &mut text);
+    let stepped = bench_core::step(bench, console::first_bytes(line, p.held), &mut text);
     let next = stepped.bench;
-    let waiting = console::put(out, used, console::front(&text, stepped.size));
-    Answered {
+    let progress = console::put_answer(out, p, console::first_bytes(&text, stepped.size));
+    Turn {
         bench: next,
-        used: waiting,
+        progress,
     }
 }
 
 // Answers every line of the input. A proved loop has to end, so this one counts its turns down, from a number that no run uses up.
-fn answer_all(piece: &mut [u8], line: &mut [u8], out: &mut [u8]) {
+fn answer_all(piece: &mut [u8], line: &mut [u8], out: &mut [u8]) -> Turn
+    requires line { ⌜ longest < length (now line) ⌝ }
+    requires out { ⌜ 192 ≤ length (now out) ⌝ }
+    ensures { λ r. ⌜
+        Ran (Gives lineAnswer) newBench (length (now (line .entry))) (length (now (out .entry)))
+        (benchOf (r .bench)) (standingOf (now (piece .exit)) (now (line .exit)) (now (out .exit)) (r .progress))
+        ⌝ }
+{
     let mut bench = bench_core::new();
-    let mut input = console::start();
+    let mut p = console::begin();
     let mut turns = u64::MAX;
     while turns > 0 {
-        input = console::next_line(piece, line, out, input);
-        if !input.ready {
-            return;
+        p = console::advance(piece, line, out, p);
+        if console::is_ended(p) {
+            return Turn { bench, progress: p };
         }
-        let answered = answer(bench, console::front(line, input.held), out, input.used);
-        bench = answered.bench;
-        input.used = answered.used;
+        let next = answer(bench, line, out, p);
+        bench = next.bench;
+        p = next.progress;
         turns -= 1;
     }
+    Turn { bench, progress: p }
 }
 
 // A line is held up to one byte more than the longest, so that a longer one is seen to be longer.

@@ -120,7 +120,10 @@ fn put_answer(answer: auc::Answer, batch: [u8; MOST_LENT], size: usize) -> Text 
     }
     let mut image = [0u8; auc_image::SIZE];
     auc_image::write(next, &mut image);
-    text::put_octets(text::put_octets(t, &image), console::front(&batch, size))
+    text::put_octets(
+        text::put_octets(t, &image),
+        console::first_bytes(&batch, size),
+    )
 }
 
 fn put_outcome(outcome: Outcome, n: u8) -> Text {

@@ -211,7 +211,7 @@ fn read_fields(call: Call, form: &[u8], line: &[u8], store: &mut [u8]) -> Call {
 // The call of a line. The words that are known are entries with a space between, each a word, a colon and its form.
 pub fn read(words: &[u8], line: &[u8], store: &mut [u8]) -> Call {
     let end = fields::field_end(line, 0);
-    let entry = find_word(words, console::front(line, end));
+    let entry = find_word(words, console::first_bytes(line, end));
     let form = between(words, entry.start, entry.end);
     let c = read_fields(without_fields(entry.word, end), form, line, store);
     if c.at != line.len() {
@@ -251,7 +251,7 @@ pub fn part<'a>(c: Call, i: usize, store: &'a [u8]) -> &'a [u8]
 {
     let starts = c.starts;
     let rest = between(store, starts[i], store.len());
-    console::front(rest, number(c, i) as usize)
+    console::first_bytes(rest, number(c, i) as usize)
 }
 
 // Copies octets to the front of a buffer that has room for them.

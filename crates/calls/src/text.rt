@@ -18,7 +18,7 @@ pub fn no_text() -> Text {
 
 fn put(t: Text, part: &[u8]) -> Text {
     let mut bytes = t.bytes;
-    let size = console::put(&mut bytes, t.size, part);
+    let size = console::append(&mut bytes, t.size, part);
     Text { bytes, size }
 }
 
@@ -59,7 +59,7 @@ fn write_hex(octets: &[u8], out: &mut [u8]) -> usize {
 pub fn put_octets(t: Text, octets: &[u8]) -> Text {
     let mut text = [b' '; LONGEST];
     let end = write_hex(octets, &mut text);
-    put(t, console::front(&text, end))
+    put(t, console::first_bytes(&text, end))
 }
 
 // Two strings of a key's size: K and OPc, CK and IK, RAND and AUTN.
@@ -79,5 +79,5 @@ pub fn image(refusal: u8, buffer: [u8; MOST_LENT], size: usize) -> Text {
     if refusal != 0 {
         return refused(refusal);
     }
-    put_octets(word(b"image"), console::front(&buffer, size))
+    put_octets(word(b"image"), console::first_bytes(&buffer, size))
 }

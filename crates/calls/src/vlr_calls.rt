@@ -167,5 +167,5 @@ fn size_of(places: &[u8]) -> usize {
 
 // The places without the zeros at their end.
 fn put_places(t: Text, places: &[u8]) -> Text {
-    text::put_octets(t, console::front(places, size_of(places)))
+    text::put_octets(t, console::first_bytes(places, size_of(places)))
 }

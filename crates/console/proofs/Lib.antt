@@ -1,1 +1,5 @@
-pub mod WaitingLaws
+pub mod BufferLaws
+pub mod LineLaws
+pub mod TurnLaws
+pub mod Runs
+pub mod Loops

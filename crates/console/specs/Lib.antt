@@ -1,1 +1,3 @@
-pub mod Waiting
+pub mod Lines
+pub mod Buffers
+pub mod Turns

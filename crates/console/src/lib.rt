@@ -1,14 +1,33 @@
-// What programs that answer lines share: one piece of the input at a time, and an output buffer in which answers wait until it is
-// written out. No contract can say what was read or written.
+// What programs that answer lines share: one piece of the input at a time, a buffer for the line, and one in which answers wait until
+// they are written out. A program's loop is `advance`, then its own answer where the line is whole, until `is_ended`. All that no
+// contract can say lies in `write_out` and `fetch`: what a read brought, and whether a write arrived.
+ghost use Prim.Native.Nat.{ℕ, min, _/_};
+ghost use mathlib.Core.Bool.{Bool, true, false, _&&_, _||_, not, cond};
+ghost use mathlib.Core.List.{List};
 ghost use mathlib.Core.Path.{_≡_};
-ghost use lib.ListN.{take};
+ghost use lib.Dec.{eqb, ltb};
+ghost use lib.ListN.{length, take, drop};
 ghost use Rattle.io.specs.Counts.{Counts};
-ghost use Rattle.console.specs.Waiting.{afterPut, bufferOf};
+ghost use Rattle.console.specs.Buffers.{appended, bufferOf};
+ghost use Rattle.console.specs.Lines.{upToNewline};
+ghost use Rattle.console.specs.Turns.{advanced, endedAt, exchanged, standingOf, stopped, taken};
+use libc::STDERR_FILENO;
 use libc::STDIN_FILENO;
 use libc::STDOUT_FILENO;
 
+const NEWLINE: u8 = 10;
+
+// ---- parts of buffers
+
+// The smaller of two numbers.
+fn smaller(a: usize, b: usize) -> usize
+    ensures { λ r. ⌜ r ≡ min a b ⌝ }
+{
+    if a <= b { a } else { b }
+}
+
 // The first `n` bytes; all, where there are fewer.
-pub fn front<'a>(bytes: &'a [u8], n: usize) -> &'a [u8]
+pub fn first_bytes<'a>(bytes: &'a [u8], n: usize) -> &'a [u8]
     ensures { λ r. ⌜ now r ≡ take n (now (bytes .entry)) ⌝ }
 {
     if n < bytes.len() {
@@ -17,8 +36,95 @@ pub fn front<'a>(bytes: &'a [u8], n: usize) -> &'a [u8]
     bytes
 }
 
-// One read of the standard input, so that a line that is typed is answered at once. How many bytes came to the start of `piece`:
-// none at the end of the input, or where the read fails.
+// Puts `part` behind the first `used` bytes of `buffer`, as far as there is room, and returns how many are used then.
+pub fn append(buffer: &mut [u8], used: usize, part: &[u8]) -> usize
+    ensures { λ r. ⌜ bufferOf r (now (buffer .exit)) ≡ appended (now (buffer .entry)) used (now (part .entry)) ⌝ }
+{
+    let from = smaller(used, buffer.len());
+    let n = smaller(part.len(), buffer.len() - from);
+    from + bytes::copy(&part[..n], &mut buffer[from..])
+}
+
+// How many bytes stand before the first newline; all, where there is none.
+fn up_to_newline(bytes: &[u8]) -> usize
+    ensures { λ r. ⌜ r ≡ length (upToNewline (now (bytes .entry))) ⌝ }
+{
+    let mut i = 0;
+    while i < bytes.len() {
+        if bytes[i] == NEWLINE {
+            return i;
+        }
+        i += 1;
+    }
+    i
+}
+
+// ---- how far a program is
+
+// The part of the piece from `at` up to `size` is not taken yet, `held` counts the bytes of the line, and `used` those that wait to be
+// written out. `ready` says that the line is whole, `over` that the input has ended, and `failed` that a write failed.
+pub struct Progress {
+    pub at: usize,
+    pub size: usize,
+    pub held: usize,
+    pub used: usize,
+    pub ready: bool,
+    pub over: bool,
+    pub failed: bool,
+}
+
+// Before the first read.
+pub fn begin() -> Progress
+    ensures { λ r. ⌜ r ≡ record { at = 0; size = 0; held = 0; used = 0; ready = false; over = false; failed = false } ⌝ }
+{
+    Progress {
+        at: 0,
+        size: 0,
+        held: 0,
+        used: 0,
+        ready: false,
+        over: false,
+        failed: false,
+    }
+}
+
+// Whether the program is at its end: a write failed, or the input is over and all is answered and written out.
+pub fn is_ended(p: Progress) -> bool
+    ensures { λ r. ⌜ r ≡ endedAt p ⌝ }
+{
+    p.failed | (p.over & !p.ready & (p.used == 0))
+}
+
+// What is not taken yet of the piece.
+fn untaken<'a>(piece: &'a [u8], p: Progress) -> &'a [u8]
+    ensures { λ r. ⌜ now r ≡ drop (p .at) (take (p .size) (now (piece .entry))) ⌝ }
+{
+    let came = first_bytes(piece, p.size);
+    let at = smaller(p.at, came.len());
+    &came[at..]
+}
+
+// ---- outside
+
+// How many bytes were handed to the writer, and whether they arrived.
+pub struct Written {
+    pub count: usize,
+    pub arrived: bool,
+}
+
+// Hands bytes to the standard output. Where there are none, no call is made.
+fn write_out(bytes: &[u8]) -> Written
+    ensures { λ r. ⌜ r .count ≡ length (now (bytes .entry)) ⌝ }
+{
+    let arrived = io::write_all(STDOUT_FILENO, bytes);
+    Written {
+        count: bytes.len(),
+        arrived,
+    }
+}
+
+// One read of the standard input, so that a line that is typed is answered at once. How many bytes came to the front of `piece`: none at
+// the end of the input, or where the read fails.
 fn fetch(piece: &mut [u8]) -> usize
     ensures { λ r. ⌜ Counts r (now (piece .exit)) ⌝ }
 {
@@ -26,112 +132,126 @@ fn fetch(piece: &mut [u8]) -> usize
     io::count(got, piece)
 }
 
-// Writes out the first `used` bytes of `out`; all, where there are fewer. A write that fails is passed over: a program has no exit
-// status to say so.
-fn flush(out: &[u8], used: usize) {
-    io::write_all(STDOUT_FILENO, front(out, used));
-}
+// ---- a turn
 
-// Puts `answer` behind the `used` bytes that wait in `out`, and returns how many wait then. Where it has no room, what waits is
-// written out first; an answer that is larger than the buffer is written out at once. With `used` past the buffer it is full.
-pub fn put(out: &mut [u8], used: usize, answer: &[u8]) -> usize
-    ensures { λ r. ⌜ bufferOf r (now (out .exit)) ≡ afterPut (now (out .entry)) used (now (answer .entry)) ⌝ }
+// How many of the `waiting` bytes in a buffer of `room` are written out, where `left` bytes of the piece are not taken yet: all where it
+// is used up, so that a person who types is answered before the next read, and where more than half of the buffer is used, so that the
+// next answer has room.
+fn count_due(left: usize, waiting: usize, room: usize) -> usize
+    ensures { λ r. ⌜ r ≡ cond (eqb left 0 || ltb (room / 2) waiting) waiting 0 ⌝ }
 {
-    let held = front(out, used).len();
-    if answer.len() <= out.len() - held {
-        return held + bytes::copy(answer, &mut out[held..]);
+    if left == 0 {
+        return waiting;
     }
-    flush(out, used);
-    if answer.len() <= out.len() {
-        return bytes::copy(answer, out);
+    if room / 2 < waiting {
+        return waiting;
     }
-    io::write_all(STDOUT_FILENO, answer);
     0
 }
 
-// Where a program stands in its input: the part of the piece from `at` up to `size` is not taken yet, `held` counts the bytes of the
-// line, and `used` those that wait in the output buffer. `ready` says that the line is whole, and `over` that the input has ended.
-pub struct Input {
-    pub at: usize,
-    pub size: usize,
-    pub held: usize,
-    pub used: usize,
-    pub ready: bool,
-    pub over: bool,
-}
-
-pub fn start() -> Input {
-    Input {
-        at: 0,
-        size: 0,
-        held: 0,
-        used: 0,
-        ready: false,
-        over: false,
+// Writes out what is due, and reads the next piece where the last one is used up. What was written out no longer waits. A write that
+// fails is told on the standard error, and nothing is read.
+fn exchange(piece: &mut [u8], out: &[u8], p: Progress) -> Progress
+    ensures { λ r. ⌜
+        ((line : List ℕ) → standingOf (now (piece .exit)) line (now (out .entry)) r
+        ≡ cond (r .failed) (stopped (standingOf (now (piece .entry)) line (now (out .entry)) p))
+        (exchanged (length (now (out .entry))) (standingOf (now (piece .entry)) line (now (out .entry)) p)
+        (take (r .size) (now (piece .exit)))))
+        ⌝ }
+{
+    let left = untaken(piece, p).len();
+    let waiting = first_bytes(out, p.used);
+    let written = write_out(first_bytes(waiting, count_due(left, waiting.len(), out.len())));
+    if !written.arrived {
+        io::write_all(STDERR_FILENO, b"the answers cannot be written\n");
+        return Progress {
+            at: p.at,
+            size: p.size,
+            held: p.held,
+            used: p.used,
+            ready: p.ready,
+            over: p.over,
+            failed: true,
+        };
     }
-}
-
-// At the end of the input: bytes after the last newline are a line.
-fn ended(held: usize) -> Input {
-    Input {
-        at: 0,
-        size: 0,
-        held,
-        used: 0,
-        ready: 0 < held,
-        over: true,
-    }
-}
-
-// Reads the next piece. What waits in the output buffer is written out first, so that a person who types is answered at once.
-fn more(piece: &mut [u8], out: &[u8], input: Input) -> Input {
-    flush(out, input.used);
-    if input.over {
-        return ended(input.held);
+    let used = waiting.len() - written.count;
+    if (left != 0) | p.over {
+        return Progress {
+            at: p.at,
+            size: p.size,
+            held: p.held,
+            used,
+            ready: p.ready,
+            over: p.over,
+            failed: false,
+        };
     }
     let size = fetch(piece);
-    if size == 0 {
-        return ended(input.held);
-    }
-    Input {
+    Progress {
         at: 0,
         size,
-        held: input.held,
-        used: 0,
+        held: p.held,
+        used,
+        ready: p.ready,
+        over: size == 0,
+        failed: false,
+    }
+}
+
+// Takes the rest of the line, as far as the piece has it. At the end of the input, bytes that no newline ended are a line.
+fn take_part(piece: &[u8], line: &mut [u8], p: Progress) -> Progress
+    ensures standing { λ r. ⌜
+        ((out : List ℕ) → standingOf (now (piece .entry)) (now (line .exit)) out r
+        ≡ taken (length (now (line .entry))) (standingOf (now (piece .entry)) (now (line .entry)) out p))
+        ⌝ }
+    ensures size { λ r. ⌜ r .size ≡ p .size ⌝ }
+{
+    let rest = untaken(piece, p);
+    let n = up_to_newline(rest);
+    let held = append(line, p.held, &rest[..n]);
+    let last = first_bytes(piece, p.size).len();
+    Progress {
+        at: smaller(p.at, last) + n + 1,
+        size: p.size,
+        held,
+        used: p.used,
+        ready: (n < rest.len()) | (p.over & (0 < held)),
+        over: p.over,
+        failed: p.failed,
+    }
+}
+
+// A turn, up to the answer: writes out, reads and takes what is next. Where the line is whole after it, the line buffer begins with
+// `held` bytes of it: all, or as many as the buffer has.
+pub fn advance(piece: &mut [u8], line: &mut [u8], out: &[u8], p: Progress) -> Progress
+    ensures { λ r. ⌜
+        standingOf (now (piece .exit)) (now (line .exit)) (now (out .entry)) r
+        ≡ advanced (length (now (line .entry))) (length (now (out .entry)))
+        (standingOf (now (piece .entry)) (now (line .entry)) (now (out .entry)) p) (r .failed) (take (r .size) (now (piece .exit)))
+        ⌝ }
+{
+    let met = exchange(piece, out, p);
+    if met.failed {
+        return met;
+    }
+    take_part(piece, line, met)
+}
+
+// The text of an answer goes behind those that wait, as far as there is room, and the next line begins.
+pub fn put_answer(out: &mut [u8], p: Progress, text: &[u8]) -> Progress
+    ensures bytes { λ r. ⌜ bufferOf (r .used) (now (out .exit)) ≡ appended (now (out .entry)) (p .used) (now (text .entry)) ⌝ }
+    ensures progress { λ r. ⌜
+        r ≡ record { at = p .at; size = p .size; held = 0; used = r .used; ready = false; over = p .over; failed = p .failed }
+        ⌝ }
+{
+    let used = append(out, p.used, text);
+    Progress {
+        at: p.at,
+        size: p.size,
+        held: 0,
+        used,
         ready: false,
-        over: false,
+        over: p.over,
+        failed: p.failed,
     }
-}
-
-// Takes the rest of the line, as far as the piece has it; where the piece has nothing left, the next is read.
-fn step(piece: &mut [u8], line: &mut [u8], out: &[u8], input: Input) -> Input {
-    if input.size <= input.at {
-        return more(piece, out, input);
-    }
-    let taken = lines::take(line, input.held, front(piece, input.size), input.at);
-    Input {
-        at: taken.next,
-        size: input.size,
-        held: taken.held,
-        used: input.used,
-        ready: taken.ended,
-        over: false,
-    }
-}
-
-// Goes on to the next line, across as many pieces as it takes. The line buffer then begins with it; `held` is its length, or one
-// more than the buffer has where it is longer. Where no line is left, `ready` is false. A proved loop has to end, so this one counts
-// its turns down, from a number that no run uses up.
-pub fn next_line(piece: &mut [u8], line: &mut [u8], out: &[u8], input: Input) -> Input {
-    let mut now = input;
-    now.held = 0;
-    let mut turns = u64::MAX;
-    while turns > 0 {
-        now = step(piece, line, out, now);
-        if now.ready | now.over {
-            return now;
-        }
-        turns -= 1;
-    }
-    now
 }

@@ -1,114 +1,249 @@
-// The functions f1 to f5* of vectors: each line of the standard input is `SET K OPC RAND SQN AMF`, one digit and then lower-case hex,
-// and its answer is `MAC MACS RES CK IK AK AKS`, `refused 1` for a set that is not known, or `bad line`.
-ghost use Rattle.aes_tables.specs.RoundTable.{IsRoundTable};
-use function_outputs::Outputs;
+// The functions f1 to f5* of vectors: each line of the standard input is `SET K OPC RAND SQN AMF`, one digit and then lower-case hex, and
+// its answer is `MAC MACS RES CK IK AK AKS`, `refused 1` for a set that is not known, or `bad line`.
+use console::Progress;
 use functions::Keys;
+ghost use Prim.Native.Nat.{ℕ, _+_, _-_, _*_, _≤_, _<_};
+ghost use mathlib.Core.Bool.{true};
+ghost use mathlib.Core.List.{List, [], _∷_, _++_};
+ghost use mathlib.Core.Path.{_≡_};
+ghost use lib.ListN.{getD, length, take};
+ghost use Rattle.octets.specs.Octets.{zeros};
+ghost use Rattle.aes_tables.specs.RoundTable.{IsRoundTable};
+ghost use Rattle.hex.specs.Hex.{hex};
+ghost use Rattle.fields.specs.Fields.{readFieldInto};
+ghost use Rattle.functions.specs.Sets.{sets};
+ghost use Rattle.functions.specs.Challenge.{keysOf};
+ghost use Rattle.console.specs.Turns.{AnsweredIf, Gives, Ran, standingOf};
+ghost use Rattle.function_vectors.specs.Outputs.{Answers};
+ghost use Rattle.function_vectors.specs.Answer.{answerText, lineAnswer, challengeFormed, keysFormed, outputsText};
 
-// The set that a character stands for; 10, where it is no digit.
-fn digit(c: u8) -> u8 {
-    if c < b'0' {
-        return 10;
-    }
-    if b'9' < c {
-        return 10;
-    }
-    c - b'0'
+// ---- the outputs
+
+pub struct Outputs {
+    pub mac: [u8; 8],
+    pub macs: [u8; 8],
+    pub res: [u8; 8],
+    pub ck: [u8; 16],
+    pub ik: [u8; 16],
+    pub ak: [u8; 6],
+    pub aks: [u8; 6],
 }
 
-// Reads the fields into the arrays, and returns the set; 10, where the line has another form.
-fn read_line(
-    line: &[u8],
-    k: &mut [u8; 16],
-    opc: &mut [u8; 16],
-    rand: &mut [u8; 16],
-    sqn: &mut [u8; 6],
-    amf: &mut [u8; 2],
-) -> u8 {
-    if line.len() != 118 {
-        return 10;
+// The seven outputs under one subscriber's keys, with one key schedule and one T.
+fn seven(table: &[u32; 256], keys: Keys, rand: [u8; 16], sqn: [u8; 6], amf: [u8; 2]) -> Outputs
+    requires { ⌜ IsRoundTable (now table) ⌝ }
+    ensures { λ r. ⌜ Answers (sets .under (keysOf keys)) rand sqn amf r ⌝ }
+{
+    let schedule = functions::schedule(keys);
+    let c = functions::prepare(table, &schedule, keys, rand);
+    let mac = functions::f1(table, &schedule, c, sqn, amf);
+    let macs = functions::f1s(table, &schedule, c, sqn, amf);
+    let both = functions::f2_f5(table, &schedule, c);
+    let ck = functions::f3(table, &schedule, c);
+    let ik = functions::f4(table, &schedule, c);
+    let aks = functions::f5s(table, &schedule, c);
+    let res = both.res;
+    let ak = both.ak;
+    Outputs {
+        mac,
+        macs,
+        res,
+        ck,
+        ik,
+        ak,
+        aks,
     }
-    let keys = fields::hex_field(line, 1, k) & fields::hex_field(line, 34, opc);
-    let challenge = fields::hex_field(line, 67, rand)
-        & fields::hex_field(line, 100, sqn)
-        & fields::hex_field(line, 113, amf);
-    if keys & challenge {
-        return digit(line[0]);
-    }
-    10
 }
 
-// Puts at most 16 octets in hex and the byte `end` behind them into the output buffer, and returns how many bytes wait there.
-fn put(octets: &[u8], end: u8, out: &mut [u8], used: usize) -> usize {
-    if 16 < octets.len() {
-        return used;
-    }
-    let mut sixteen = [0u8; 16];
-    let size = bytes::copy(octets, &mut sixteen);
-    let mut text = [0u8; 32];
-    hex::write(&sixteen, &mut text);
-    let waiting = console::put(out, used, console::front(&text, 2 * size));
-    console::put(out, waiting, &[end])
+// Writes octets in hex, and the byte `end` behind them, to `text` from `used` on, and returns where they end.
+fn put_hex(text: &mut [u8], used: usize, octets: &[u8], end: u8) -> usize
+    requires { ⌜ used + 2 * length (now octets) + 1 ≤ length (now text) ⌝ }
+    ensures end { λ r. ⌜ r ≡ used + 2 * length (now (octets .entry)) + 1 ⌝ }
+    ensures text { λ r. ⌜ take r (now (text .exit)) ≡ take used (now (text .entry)) ++ (hex (now (octets .entry)) ++ (end ∷ [])) ⌝ }
+{
+    let last = used + 2 * octets.len();
+    hex::write(octets, &mut text[used..last]);
+    text[last] = end;
+    last + 1
 }
 
-// The outputs on one line: first those of 8 octets, then the others.
-fn put_outputs(o: Outputs, out: &mut [u8], used: usize) -> usize {
-    let n = put(&o.mac, b' ', out, used);
-    let n = put(&o.macs, b' ', out, n);
-    let n = put(&o.res, b' ', out, n);
-    put_keys(o, out, n)
+// Writes MAC, MAC-S and RES to the front of the text, 51 bytes.
+fn put_macs(text: &mut [u8], mac: [u8; 8], macs: [u8; 8], res: [u8; 8])
+    requires { ⌜ 51 ≤ length (now text) ⌝ }
+    ensures { λ _. ⌜ take 51 (now (text .exit)) ≡ (hex mac ++ (32 ∷ [])) ++ (hex macs ++ (32 ∷ [])) ++ (hex res ++ (32 ∷ [])) ⌝ }
+{
+    let n = put_hex(text, 0, &mac, b' ');
+    let n = put_hex(text, n, &macs, b' ');
+    put_hex(text, n, &res, b' ');
 }
 
-fn put_keys(o: Outputs, out: &mut [u8], used: usize) -> usize {
-    let n = put(&o.ck, b' ', out, used);
-    let n = put(&o.ik, b' ', out, n);
-    let n = put(&o.ak, b' ', out, n);
-    put(&o.aks, b'\n', out, n)
+// Writes CK, IK, AK and AK* behind the first 51 bytes of the text.
+fn put_keys(text: &mut [u8], ck: [u8; 16], ik: [u8; 16], ak: [u8; 6], aks: [u8; 6]) -> usize
+    requires { ⌜ 143 ≤ length (now text) ⌝ }
+    ensures { λ r. ⌜
+        take r (now (text .exit)) ≡ take 51 (now (text .entry)) ++ (hex ck ++ (32 ∷ [])) ++ (hex ik ++ (32 ∷ [])) ++ (hex ak ++ (32 ∷ []))
+        ++ (hex aks ++ (10 ∷ []))
+        ⌝ }
+{
+    let n = put_hex(text, 51, &ck, b' ');
+    let n = put_hex(text, n, &ik, b' ');
+    let n = put_hex(text, n, &ak, b' ');
+    put_hex(text, n, &aks, b'\n')
 }
 
-// Puts the answer to a line. The form of a line comes before its set.
-fn answer(t: &[u32; 256], line: &[u8], out: &mut [u8], used: usize) -> usize
-    requires { ⌜ IsRoundTable (now t) ⌝ }
+// Writes the outputs on one line to the front of the text, and returns its length.
+fn put_outputs(text: &mut [u8], o: Outputs) -> usize
+    requires { ⌜ 143 ≤ length (now text) ⌝ }
+    ensures { λ r. ⌜ take r (now (text .exit)) ≡ outputsText (o .mac) (o .macs) (o .res) (o .ck) (o .ik) (o .ak) (o .aks) ⌝ }
+{
+    let mac = o.mac;
+    let macs = o.macs;
+    let res = o.res;
+    put_macs(text, mac, macs, res);
+    let ck = o.ck;
+    let ik = o.ik;
+    let ak = o.ak;
+    let aks = o.aks;
+    put_keys(text, ck, ik, ak, aks)
+}
+
+// ---- the line
+
+// The keys on a line, and whether they are well formed.
+pub struct ReadKeys {
+    pub formed: bool,
+    pub keys: Keys,
+}
+
+fn read_keys(line: &[u8]) -> ReadKeys
+    requires { ⌜ length (now line) ≡ 118 ⌝ }
+    ensures formed { λ r. ⌜ r .formed ≡ keysFormed (now (line .entry)) ⌝ }
+    ensures set { λ r. ⌜ (keysFormed (now (line .entry)) ≡ true → r .keys .set ≡ getD (now (line .entry)) 0 0 - 48) ⌝ }
+    ensures octets { λ r. ⌜
+        (r .keys .k ≡ readFieldInto (zeros 16) 1 (now (line .entry))) × (r .keys .opc ≡ readFieldInto (zeros 16) 34 (now (line .entry)))
+        ⌝ }
 {
     let mut k = [0u8; 16];
     let mut opc = [0u8; 16];
+    let fields = fields::hex_field(line, 1, &mut k) & fields::hex_field(line, 34, &mut opc);
+    let c = line[0];
+    if c < b'0' {
+        return ReadKeys {
+            formed: false,
+            keys: Keys { set: 0, k, opc },
+        };
+    }
+    ReadKeys {
+        formed: (c <= b'9') & fields,
+        keys: Keys {
+            set: c - b'0',
+            k,
+            opc,
+        },
+    }
+}
+
+// The challenge on a line, and whether it is well formed.
+pub struct ReadChallenge {
+    pub formed: bool,
+    pub rand: [u8; 16],
+    pub sqn: [u8; 6],
+    pub amf: [u8; 2],
+}
+
+fn read_challenge(line: &[u8]) -> ReadChallenge
+    ensures formed { λ r. ⌜ r .formed ≡ challengeFormed (now (line .entry)) ⌝ }
+    ensures octets { λ r. ⌜
+        (r .rand ≡ readFieldInto (zeros 16) 67 (now (line .entry))) × (r .sqn ≡ readFieldInto (zeros 6) 100 (now (line .entry)))
+        × (r .amf ≡ readFieldInto (zeros 2) 113 (now (line .entry)))
+        ⌝ }
+{
     let mut rand = [0u8; 16];
     let mut sqn = [0u8; 6];
     let mut amf = [0u8; 2];
-    let set = read_line(line, &mut k, &mut opc, &mut rand, &mut sqn, &mut amf);
-    if 9 < set {
-        return console::put(out, used, b"bad line\n");
+    let formed = fields::hex_field(line, 67, &mut rand)
+        & (fields::hex_field(line, 100, &mut sqn) & fields::hex_field(line, 113, &mut amf));
+    ReadChallenge {
+        formed,
+        rand,
+        sqn,
+        amf,
     }
-    if !functions::is_known(set) {
-        return console::put(out, used, b"refused 1\n");
+}
+
+// Writes the answer to a line to the front of `text`, which has room for it, and returns its length. The form of a line comes before its
+// set.
+fn write_answer(table: &[u32; 256], line: &[u8], text: &mut [u8]) -> usize
+    requires table { ⌜ IsRoundTable (now table) ⌝ }
+    requires text { ⌜ 143 ≤ length (now text) ⌝ }
+    ensures { λ r. ⌜ take r (now (text .exit)) ≡ answerText (now (line .entry)) ⌝ }
+{
+    if line.len() != 118 {
+        return console::append(text, 0, b"bad line\n");
     }
-    put_outputs(
-        function_outputs::seven(t, Keys { set, k, opc }, rand, sqn, amf),
-        out,
-        used,
-    )
+    let read = read_keys(line);
+    let challenge = read_challenge(line);
+    if !(read.formed & challenge.formed) {
+        return console::append(text, 0, b"bad line\n");
+    }
+    let keys = read.keys;
+    if !functions::is_known(keys.set) {
+        return console::append(text, 0, b"refused 1\n");
+    }
+    let rand = challenge.rand;
+    let sqn = challenge.sqn;
+    let amf = challenge.amf;
+    put_outputs(text, seven(table, keys, rand, sqn, amf))
+}
+
+// ---- the loop
+
+// Answers the line where it is whole. The buffer of answers has room for two.
+fn answer(table: &[u32; 256], line: &[u8], out: &mut [u8], p: Progress) -> Progress
+    requires table { ⌜ IsRoundTable (now table) ⌝ }
+    requires out { ⌜ 286 ≤ length (now out) ⌝ }
+    ensures { λ r. ⌜
+        ((piece : List ℕ) → AnsweredIf (p .ready) (Gives lineAnswer) (length (now (out .entry)))
+        tt (standingOf piece (now (line .entry)) (now (out .entry)) p)
+        tt (standingOf piece (now (line .entry)) (now (out .exit)) r))
+        ⌝ }
+{
+    if !p.ready {
+        return p;
+    }
+    let mut text = [0u8; 143];
+    let n = write_answer(table, console::first_bytes(line, p.held), &mut text);
+    console::put_answer(out, p, console::first_bytes(&text, n))
 }
 
 // Answers every line of the input. A proved loop has to end, so this one counts its turns down, from a number that no run uses up.
-fn answer_all(t: &[u32; 256], piece: &mut [u8], line: &mut [u8], out: &mut [u8])
-    requires { ⌜ IsRoundTable (now t) ⌝ }
+fn answer_all(table: &[u32; 256], piece: &mut [u8], line: &mut [u8], out: &mut [u8]) -> Progress
+    requires table { ⌜ IsRoundTable (now table) ⌝ }
+    requires line { ⌜ 118 < length (now line) ⌝ }
+    requires out { ⌜ 286 ≤ length (now out) ⌝ }
+    ensures { λ r. ⌜
+        Ran (Gives lineAnswer) tt (length (now (line .entry))) (length (now (out .entry)))
+        tt (standingOf (now (piece .exit)) (now (line .exit)) (now (out .exit)) r)
+        ⌝ }
 {
-    let mut input = console::start();
+    let mut p = console::begin();
     let mut turns = u64::MAX;
     while turns > 0 {
-        input = console::next_line(piece, line, out, input);
-        if !input.ready {
-            return;
+        p = console::advance(piece, line, out, p);
+        if console::is_ended(p) {
+            return p;
         }
-        input.used = answer(t, console::front(line, input.held), out, input.used);
+        p = answer(table, line, out, p);
         turns -= 1;
     }
+    p
 }
 
 // A line is held up to one byte more than a good line has, so that a longer one is seen to be longer.
 fn main() {
-    let t = aes::round_table();
+    let table = aes::round_table();
     let mut piece = io::large_buffer();
     let mut line = [0u8; 119];
     let mut out = io::large_buffer();
-    answer_all(&t, &mut piece, &mut line, &mut out);
+    answer_all(&table, &mut piece, &mut line, &mut out);
 }

@@ -10,7 +10,7 @@ use borrow.Author.Tests.{lt-ltb, le-ltb, le-leb, lt-leb, leb-true, eq-eqb, eqb-t
 use lib.Arith.{digits-div, digits-mod}
 use lib.Dec.{leb, eqb}
 use lib.ListN.{length, getD}
-use Rattle.hex.specs.Hex.{glyph, hex, isDigit, allDigits, isHex, value, unhex}
+use Rattle.hex.specs.Hex.{glyph, hex, isHexDigit, allHexDigits, isHex, value, unhex}
 use Rattle.octets.proofs.Walks.{order}
 
 or-true : (a b : Bool) → (a || b) ≡ true → (a ≡ true) ⊎ (b ≡ true)
@@ -20,8 +20,8 @@ or-true false b e = inr e
 -- ---- one character
 
 -- the two ranges of a digit's character
-pub digit-range : (c : ℕ) → isDigit c ≡ true → ((48 ≤ c) × (c ≤ 57)) ⊎ ((97 ≤ c) × (c ≤ 102))
-unfolding isDigit
+pub digit-range : (c : ℕ) → isHexDigit c ≡ true → ((48 ≤ c) × (c ≤ 57)) ⊎ ((97 ≤ c) × (c ≤ 102))
+unfolding isHexDigit
 digit-range c e = ⊎-map (within 48 57) (within 97 102) (or-true (leb 48 c && leb c 57) (leb 97 c && leb c 102) e)
   where
     within : (a b : ℕ) → (leb a c && leb c b) ≡ true → (a ≤ c) × (c ≤ b)
@@ -33,19 +33,22 @@ value-glyph d h =
     ⊎-elim (λ l. simp (lt-ltb d 10 l, le-leb (48 + d) 57 (omega arith)) (omega arith))
     (λ l. simp (le-ltb d 10 l, lt-leb (97 + (d - 10)) 57 (omega arith)) (omega arith)) (order d 10)
 
-pub digit-glyph : (d : ℕ) → d < 16 → isDigit (glyph d) ≡ true
-unfolding isDigit glyph
+pub digit-glyph : (d : ℕ) → d < 16 → isHexDigit (glyph d) ≡ true
+unfolding isHexDigit glyph
 digit-glyph d h =
     ⊎-elim (λ l. simp (lt-ltb d 10 l, le-leb 48 (48 + d) (omega arith), le-leb (48 + d) 57 (omega arith)))
-    (λ l. simp (le-ltb d 10 l, le-leb 48 (97 + (d - 10)) (omega arith), lt-leb (97 + (d - 10)) 57 (omega arith), le-leb 97 (97 + (d - 10)) (omega arith), le-leb (97 + (d - 10)) 102 (omega arith))) (order d 10)
+    (λ l.
+    let c = 97 + (d - 10) in
+    simp (le-ltb d 10 l, le-leb 48 c (omega arith), lt-leb c 57 (omega arith), le-leb 97 c (omega arith), le-leb c 102 (omega arith)))
+    (order d 10)
 
-pub glyph-value : (c : ℕ) → isDigit c ≡ true → glyph (value c) ≡ c
+pub glyph-value : (c : ℕ) → isHexDigit c ≡ true → glyph (value c) ≡ c
 unfolding value glyph
 glyph-value c e =
     ⊎-elim (λ h. simp (le-leb c 57 (h .1), lt-ltb (c - 48) 10 (omega arith)) (omega arith))
     (λ h. simp (lt-leb c 57 (omega arith), le-ltb (c - 97 + 10) 10 (omega arith)) (omega arith)) (digit-range c e)
 
-pub value-lt : (c : ℕ) → isDigit c ≡ true → value c < 16
+pub value-lt : (c : ℕ) → isHexDigit c ≡ true → value c < 16
 unfolding value
 value-lt c e =
     ⊎-elim (λ h. simp (le-leb c 57 (h .1)) (omega arith)) (λ h. simp (lt-leb c 57 (omega arith)) (omega arith)) (digit-range c e)
@@ -84,7 +87,8 @@ hex-low [] i h = absurd (omega arith)
 hex-low (b ∷ l) zero h = refl
 hex-low (b ∷ l) (suc i) h = rw (twice-one i) (hex-low l i (omega arith))
 
-pub unhex-at : (t : List ℕ) (i : ℕ) → 2 * i + 1 < length t → getD (unhex t) i 0 ≡ value (getD t (2 * i) 0) * 16 + value (getD t (2 * i + 1) 0)
+pub unhex-at : (t : List ℕ) (i : ℕ) → 2 * i + 1 < length t
+    → getD (unhex t) i 0 ≡ value (getD t (2 * i) 0) * 16 + value (getD t (2 * i + 1) 0)
 unfolding unhex
 unhex-at [] i h = absurd (omega arith)
 unhex-at (a ∷ []) i h = absurd (omega arith)
@@ -93,19 +97,19 @@ unhex-at (a ∷ b ∷ t) (suc i) h = rw (twice-one i, twice i) (unhex-at t i (om
 
 -- ---- all the characters of a text
 
-and-parts : (c : ℕ) (t : List ℕ) → allDigits (c ∷ t) ≡ true → (isDigit c ≡ true) × (allDigits t ≡ true)
-unfolding allDigits
-and-parts c t e = and-eq-true-iff (isDigit c) (allDigits t) .0 e
+and-parts : (c : ℕ) (t : List ℕ) → allHexDigits (c ∷ t) ≡ true → (isHexDigit c ≡ true) × (allHexDigits t ≡ true)
+unfolding allHexDigits
+and-parts c t e = and-eq-true-iff (isHexDigit c) (allHexDigits t) .0 e
 
-pub digit-at : (t : List ℕ) (i : ℕ) → allDigits t ≡ true → i < length t → isDigit (getD t i 0) ≡ true
+pub digit-at : (t : List ℕ) (i : ℕ) → allHexDigits t ≡ true → i < length t → isHexDigit (getD t i 0) ≡ true
 digit-at [] i e h = absurd (omega arith)
 digit-at (c ∷ t) zero e h = and-parts c t e .0
 digit-at (c ∷ t) (suc i) e h = digit-at t i (and-parts c t e .1) (omega arith)
 
 -- ---- there and back, for octets and for the text of some
 
-pub hex-digits : (l : List ℕ) → ((i : ℕ) → getD l i 0 < 256) → allDigits (hex l) ≡ true
-unfolding hex allDigits
+pub hex-digits : (l : List ℕ) → ((i : ℕ) → getD l i 0 < 256) → allHexDigits (hex l) ≡ true
+unfolding hex allHexDigits
 hex-digits [] h = refl
 hex-digits (b ∷ l) h =
     let b-fits : b < 256 = h 0 in
@@ -123,7 +127,7 @@ unhex-hex (b ∷ l) h =
     ap₂ (λ (x : ℕ) (r : List ℕ). x ∷ r) (rw (value-glyph (b / 16) (omega arith), value-glyph (b % 16) (omega arith)) (div-add-mod' b 16))
     (unhex-hex l (λ i. h (suc i)))
 
-back : (n : ℕ) (t : List ℕ) → length t ≡ 2 * n → allDigits t ≡ true → hex (unhex t) ≡ t
+back : (n : ℕ) (t : List ℕ) → length t ≡ 2 * n → allHexDigits t ≡ true → hex (unhex t) ≡ t
 unfolding hex unhex
 back n [] e d = refl
 back n (a ∷ []) e d = absurd (omega arith)
@@ -136,4 +140,4 @@ back (suc n) (a ∷ b ∷ t) e d =
 
 pub hex-unhex : (n : ℕ) (t : List ℕ) → isHex n t ≡ true → hex (unhex t) ≡ t
 unfolding isHex
-hex-unhex n t e = let p = and-eq-true-iff (eqb (length t) (2 * n)) (allDigits t) .0 e in back n t (eqb-true _ _ (p .0)) (p .1)
+hex-unhex n t e = let p = and-eq-true-iff (eqb (length t) (2 * n)) (allHexDigits t) .0 e in back n t (eqb-true _ _ (p .0)) (p .1)

@@ -15,17 +15,17 @@ hex [] = []
 hex (b ∷ l) = glyph (b / 16) ∷ glyph (b % 16) ∷ hex l
 
 -- the character is one of '0' to '9' or one of 'a' to 'f'
-unfoldable pub isDigit : ℕ → Bool
-isDigit c = leb 48 c && leb c 57 || leb 97 c && leb c 102
+unfoldable pub isHexDigit : ℕ → Bool
+isHexDigit c = leb 48 c && leb c 57 || leb 97 c && leb c 102
 
 -- every character of a text is such a digit
-unfoldable pub allDigits : List ℕ → Bool
-allDigits [] = true
-allDigits (c ∷ t) = isDigit c && allDigits t
+unfoldable pub allHexDigits : List ℕ → Bool
+allHexDigits [] = true
+allHexDigits (c ∷ t) = isHexDigit c && allHexDigits t
 
 -- the text is the hex of n octets
 unfoldable pub isHex : ℕ → List ℕ → Bool
-isHex n t = eqb (length t) (2 * n) && allDigits t
+isHex n t = eqb (length t) (2 * n) && allHexDigits t
 
 -- the digit that a character stands for
 unfoldable pub value : ℕ → ℕ

@@ -3,11 +3,12 @@ ghost use Prim.Native.Nat.{_*_, _<_};
 ghost use mathlib.Core.Bool.{true};
 ghost use mathlib.Core.Path.{_≡_};
 ghost use lib.ListN.{length};
-ghost use Rattle.hex.specs.Hex.{allDigits, glyph as glyphOf, hasRoom, hex, isDigit, isHex, readInto, unhex, value as valueOf, writtenInto};
+ghost use Rattle.hex.specs.Hex.{allHexDigits, glyph as glyphOf, hasRoom, hex, isHex, isHexDigit};
+ghost use Rattle.hex.specs.Hex.{readInto, unhex, value as valueOf, writtenInto};
 
 // Whether `c` is a lower-case hex digit.
-fn is_digit(c: u8) -> bool
-    ensures { λ r. ⌜ r ≡ isDigit c ⌝ }
+fn is_hex_digit(c: u8) -> bool
+    ensures { λ r. ⌜ r ≡ isHexDigit c ⌝ }
 {
     if c <= b'9' {
         return b'0' <= c;
@@ -20,7 +21,7 @@ fn is_digit(c: u8) -> bool
 
 // The digit that `c` stands for.
 fn value(c: u8) -> u8
-    requires { ⌜ isDigit c ≡ true ⌝ }
+    requires { ⌜ isHexDigit c ≡ true ⌝ }
     ensures { λ r. ⌜ r ≡ valueOf c ⌝ }
     ensures { λ r. ⌜ r < 16 ⌝ }
 {
@@ -42,12 +43,12 @@ fn glyph(d: u8) -> u8
 }
 
 // Whether all of `text` is lower-case hex digits.
-fn all_digits(text: &[u8]) -> bool
-    ensures { λ r. ⌜ r ≡ allDigits (now (text .entry)) ⌝ }
+fn all_hex_digits(text: &[u8]) -> bool
+    ensures { λ r. ⌜ r ≡ allHexDigits (now (text .entry)) ⌝ }
 {
     let mut i = 0;
     while i < text.len() {
-        if !is_digit(text[i]) {
+        if !is_hex_digit(text[i]) {
             return false;
         }
         i += 1;
@@ -58,7 +59,7 @@ fn all_digits(text: &[u8]) -> bool
 // Fills `out` with the octets of `text`, which is hex of so many.
 fn decode(text: &[u8], out: &mut [u8])
     requires { ⌜ length (now text) ≡ 2 * length (now out) ⌝ }
-    requires { ⌜ allDigits (now text) ≡ true ⌝ }
+    requires { ⌜ allHexDigits (now text) ≡ true ⌝ }
     ensures { λ _. ⌜ now (out .exit) ≡ unhex (now (text .entry)) ⌝ }
 {
     let mut i = 0;
@@ -78,7 +79,7 @@ pub fn read(text: &[u8], out: &mut [u8]) -> bool
     if text.len() != 2 * out.len() {
         return false;
     }
-    if !all_digits(text) {
+    if !all_hex_digits(text) {
         return false;
     }
     decode(text, out);

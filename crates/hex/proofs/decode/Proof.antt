@@ -1,6 +1,6 @@
 -- `hex::decode` meets its contract. The invariant: the slice is as it was, with the text's first i octets copied in. Assumes nothing.
-use Prim.Native.Nat.{_+_, _-_, _*_, _≤_}
-use mathlib.Core.Path.{_≡_, refl, sym, _∙_}
+use Prim.Native.Nat.{ℕ, _+_, _-_, _*_, _≤_}
+use mathlib.Core.Path.{_≡_, refl, sym, ap₂, _∙_}
 use native.Mathlib.Omega.{arith}
 use lib.ListN.{length, getD, length-set}
 use lib.Seq.{paste, paste-zero}
@@ -17,86 +17,50 @@ Inv-loop text out₀ i₀ out i = (i ≤ length out₀) × (out ≡ paste out₀
 abbrev μ-loop : tie.MeasureT-loop
 μ-loop text out₀ i₀ out i = length out₀ - i
 
+-- the stations, from the second digit back to the entry
+abbrev first-digit : tie.After-shared-slice-known3 Inv-loop μ-loop → tie.After-shared-slice-known2 Inv-loop μ-loop
+first-digit c = c .before .before
+
+abbrev looping : tie.After-shared-slice-known2 Inv-loop μ-loop → tie.At-loop Inv-loop μ-loop
+looping c = c .before .before
+
+abbrev entry : tie.At-loop Inv-loop μ-loop → tie.Start Inv-loop μ-loop
+entry c = c .before .before .before
+
 loop-holds : tie.Need-loop-holds Inv-loop μ-loop
 loop-holds c = (search needs, paste-zero _ 0 (unhex (c .before .before .args .text .now)), refl)
 
-mul-value : tie.Need-mul-value Inv-loop μ-loop
-mul-value c = search needs
-
-shared-slice-read-value : tie.Need-shared-slice-read-value Inv-loop μ-loop
-shared-slice-read-value c = search needs
-
 value-requires : tie.Need-value-requires Inv-loop μ-loop
-value-requires c κs = digit-at _ _ (c .before .before .before .before .before .pre .1) (omega arith)
-
-mul-value-2 : tie.Need-mul-value-2 Inv-loop μ-loop
-mul-value-2 c = search needs
-
-add-value : tie.Need-add-value Inv-loop μ-loop
-add-value c = search needs
-
-shared-slice-read-value-2 : tie.Need-shared-slice-read-value-2 Inv-loop μ-loop
-shared-slice-read-value-2 c = search needs
+value-requires c κs = digit-at _ _ (entry (looping c) .pre .1) (omega arith)
 
 value-requires-2 : tie.Need-value-requires-2 Inv-loop μ-loop
-value-requires-2 c κs = digit-at _ _ (c .before .before .before .before .before .before .before .pre .1) (omega arith)
-
-mul-out : tie.Need-mul-out Inv-loop μ-loop
-mul-out c = search needs
-
-add-out : tie.Need-add-out Inv-loop μ-loop
-add-out c = search needs
-
-slice-write-out : tie.Need-slice-write-out Inv-loop μ-loop
-slice-write-out c = search needs
-
-add-i : tie.Need-add-i Inv-loop μ-loop
-add-i c = search needs
-
-loop-less : tie.Need-loop-less Inv-loop μ-loop
-loop-less c = search needs
+value-requires-2 c κs = digit-at _ _ (entry (looping (first-digit c)) .pre .1) (omega arith)
 
 loop-again : tie.Need-loop-again Inv-loop μ-loop
 loop-again c =
-    let at = c .before .before .before .before .before in
-    let entry = at .before .before .before in
-    let t = entry .args .text .now in
+    let low = c .before in
+    let at = looping (first-digit low) in
+    let t = entry at .args .text .now in
     let i = at .loop .i in
-    let size : length (unhex t) ≡ length (entry .args .out .now) = length-unhex _ t (entry .pre .0) in
-    let octet : c .before .before .value .result * 16 + c .value2 .result ≡ getD (unhex t) i 0 =
-    rw (c .before .before .value .ensures .0, c .value2 .ensures .0) (sym (unhex-at t i (omega arith))) in
-    (omega arith, paste-next _ 0 (unhex t) i (at .loop .inv .1) (omega arith) octet (omega arith) (omega arith), simp length-set (at .loop .inv .2))
-
-same-length : tie.Need-same-length Inv-loop μ-loop
-same-length c = search needs
+    let size : length (unhex t) ≡ length (entry at .args .out .now) = length-unhex _ t (entry at .pre .0) in
+    let octet : low .before .value .result * 16 + c .value2 .result ≡ getD (unhex t) i 0 =
+    ap₂ (λ (a b : ℕ). a * 16 + b) (low .before .value .ensures .0) (c .value2 .ensures .0) ∙ sym (unhex-at t i (omega arith)) in (
+      omega arith,
+      paste-next _ 0 (unhex t) i (at .loop .inv .1) (omega arith) octet (omega arith) (omega arith),
+      simp length-set (at .loop .inv .2),
+    )
 
 returns : tie.Need-returns Inv-loop μ-loop
 returns c =
     let at = c .before in
-    let entry = at .before .before .before in
-    let t = entry .args .text .now in
-    let done : at .loop .i ≡ length (entry .args .out .now) = omega arith in
-    at .loop .inv .1 ∙ rw done (paste-all _ (unhex t) _ (length-unhex _ t (entry .pre .0)) refl)
+    let t = entry at .args .text .now in
+    let done : at .loop .i ≡ length (entry at .args .out .now) = omega arith in
+    at .loop .inv .1 ∙ rw done (paste-all _ (unhex t) _ (length-unhex _ t (entry at .pre .0)) refl)
 
 pub decode-spec : {M : Type 1} → statement M
 decode-spec =
     tie.close
     (tie.spec
-    Inv-loop
-    μ-loop
-    loop-holds
-    mul-value
-    shared-slice-read-value
-    value-requires
-    mul-value-2
-    add-value
-    shared-slice-read-value-2
-    value-requires-2
-    mul-out
-    add-out
-    slice-write-out
-    add-i
-    loop-less
-    loop-again
-    same-length
-    returns)
+    Inv-loop μ-loop loop-holds (λ c. search needs) (λ c. search needs) value-requires (λ c. search needs)
+    (λ c. search needs) (λ c. search needs) value-requires-2 (λ c. search needs) (λ c. search needs)
+    (λ c. search needs) (λ c. search needs) (λ c. search needs) loop-again (λ c. search needs) returns)

@@ -17,79 +17,50 @@ Inv-loop octets out₀ i₀ out i = (i ≤ length octets) × (out ≡ paste out�
 abbrev μ-loop : tie.MeasureT-loop
 μ-loop octets out₀ i₀ out i = length octets - i
 
+-- the stations, from the second digit back to the entry
+abbrev looping : tie.After-glyph Inv-loop μ-loop → tie.At-loop Inv-loop μ-loop
+looping c = c .before .before .before
+
+abbrev entry : tie.At-loop Inv-loop μ-loop → tie.Start Inv-loop μ-loop
+entry c = c .before .before .before
+
 loop-holds : tie.Need-loop-holds Inv-loop μ-loop
 loop-holds c = (search needs, paste-zero _ 0 (hex (c .before .before .args .octets .now)), refl)
-
-shared-slice-read-b : tie.Need-shared-slice-read-b Inv-loop μ-loop
-shared-slice-read-b c = search needs
 
 glyph-requires : tie.Need-glyph-requires Inv-loop μ-loop
 glyph-requires c κs = omega (arith, c .shared-slice-known2 .given (c .before .before .loop .i))
 
-mul-out : tie.Need-mul-out Inv-loop μ-loop
-mul-out c = search needs
-
-slice-write-out : tie.Need-slice-write-out Inv-loop μ-loop
-slice-write-out c = search needs
-
-glyph-requires-2 : tie.Need-glyph-requires-2 Inv-loop μ-loop
-glyph-requires-2 c κs = search needs
-
-mul-out-2 : tie.Need-mul-out-2 Inv-loop μ-loop
-mul-out-2 c = search needs
-
-add-out : tie.Need-add-out Inv-loop μ-loop
-add-out c = search needs
-
 slice-write-out-2 : tie.Need-slice-write-out-2 Inv-loop μ-loop
 slice-write-out-2 c = simp length-set (omega arith)
 
-add-i : tie.Need-add-i Inv-loop μ-loop
-add-i c = search needs
-
-loop-less : tie.Need-loop-less Inv-loop μ-loop
-loop-less c = search needs
-
 loop-again : tie.Need-loop-again Inv-loop μ-loop
 loop-again c =
-    let at = c .before .before .before .before in
-    let entry = at .before .before .before in
-    let l = entry .args .octets .now in
+    let first = c .before in
+    let at = looping first in
+    let l = entry at .args .octets .now in
     let i = at .loop .i in
     let size : length (hex l) ≡ 2 * length l = length-hex l in
-    let high : set (at .loop .out) (2 * i) (c .before .glyph .result) ≡ paste (entry .args .out .now) 0 (hex l) (2 * i + 1) =
-    paste-next _ 0 (hex l) (2 * i) (at .loop .inv .1) (omega arith) (c .before .glyph .ensures ∙ sym (hex-high l i (omega arith))) (omega arith) (omega arith) in
-    let both : 2 * (i + 1) ≡ 2 * i + 1 + 1 = omega arith in
-    (omega arith, rw both (paste-next _ 0 (hex l) (2 * i + 1) high (omega arith) (c .glyph2 .ensures ∙ sym (hex-low l i (omega arith))) (omega arith) (omega arith)), simp length-set (at .loop .inv .2))
-
-same-length : tie.Need-same-length Inv-loop μ-loop
-same-length c = search needs
+    let glyph = first .glyph .ensures ∙ sym (hex-high l i (omega arith)) in
+    let high : set (at .loop .out) (2 * i) (first .glyph .result) ≡ paste (entry at .args .out .now) 0 (hex l) (2 * i + 1) =
+    paste-next _ 0 (hex l) (2 * i) (at .loop .inv .1) (omega arith) glyph (omega arith) (omega arith) in
+    let glyph2 = c .glyph2 .ensures ∙ sym (hex-low l i (omega arith)) in
+    let both : 2 * (i + 1) ≡ 2 * i + 1 + 1 = omega arith in (
+      omega arith,
+      rw both (paste-next _ 0 (hex l) (2 * i + 1) high (omega arith) glyph2 (omega arith) (omega arith)),
+      simp length-set (at .loop .inv .2),
+    )
 
 returns : tie.Need-returns Inv-loop μ-loop
 returns c =
     let at = c .before in
-    let entry = at .before .before .before in
-    let l = entry .args .octets .now in
+    let l = entry at .args .octets .now in
     let done : 2 * at .loop .i ≡ 2 * length l = omega arith in
-    at .loop .inv .1 ∙ rw done (paste-all _ (hex l) _ (length-hex l) (entry .pre))
+    at .loop .inv .1 ∙ rw done (paste-all _ (hex l) _ (length-hex l) (entry at .pre))
 
 pub encode-spec : {M : Type 1} → statement M
 encode-spec =
     tie.close
     (tie.spec
-    Inv-loop
-    μ-loop
-    loop-holds
-    shared-slice-read-b
-    glyph-requires
-    mul-out
-    slice-write-out
-    glyph-requires-2
-    mul-out-2
-    add-out
-    slice-write-out-2
-    add-i
-    loop-less
-    loop-again
-    same-length
-    returns)
+    Inv-loop μ-loop loop-holds (λ c. search needs) glyph-requires (λ c. search needs) (λ c. search needs)
+    (λ c κs. search needs) (λ c. search needs) (λ c. search needs) slice-write-out-2 (λ c. search needs)
+    (λ c. search needs) loop-again (λ c. search needs) returns)

@@ -15,37 +15,37 @@ refused : (text out : List ℕ) → (length text ≡ 2 * length out → ⊥) →
 unfolding isHex readInto
 refused text out other = let size = ne-eqb (length text) (2 * length out) other in (simp size, simp size)
 
-mul-if1 : tie.Need-mul-if1
-mul-if1 c = search needs
+-- the stations, from the call of `decode` back to the first test
+abbrev tested : tie.After-decode-arg → tie.After-all-hex-digits
+tested c = c .before .before
+
+abbrev sized : tie.After-all-hex-digits → tie.Else1
+sized c = c .before
 
 returns : tie.Need-returns
 returns c = refused _ _ (c .if1 .taken)
 
-all-digits-requires : tie.Need-all-digits-requires
-all-digits-requires c κs = search needs
-
 returns-2 : tie.Need-returns-2
 unfolding isHex readInto
 returns-2 c =
-    let size = eq-eqb _ _ (c .before .before .if1 .left) in
-    let digits = sym (c .before .all-digits .ensures) ∙ not-true _ (c .if2 .taken) in
+    let size = eq-eqb _ _ (sized (c .before) .if1 .left) in
+    let digits = sym (c .before .all-hex-digits .ensures) ∙ not-true _ (c .if2 .taken) in
     (simp (size, digits), simp (size, digits))
 
 decode-requires : tie.Need-decode-requires
-decode-requires c κs = (c .before .before .before .if1 .left, sym (c .before .before .all-digits .ensures) ∙ not-false _ (c .before .if2 .left))
-
-same-length : tie.Need-same-length
-same-length c = search needs
+decode-requires c κs = (sized (tested c) .if1 .left, sym (tested c .all-hex-digits .ensures) ∙ not-false _ (c .before .if2 .left))
 
 returns-3 : tie.Need-returns-3
 unfolding isHex readInto
 returns-3 c =
-    let arg = c .before .before .before in
-    let size = eq-eqb _ _ (arg .before .before .before .if1 .left) in
-    let digits = sym (arg .before .before .all-digits .ensures) ∙ not-false _ (arg .before .if2 .left) in
-    (simp (size, digits), simp (size, digits) (c .before .before .decode .ensures))
+    let decoded = c .before .before in
+    let arg = decoded .before in
+    let size = eq-eqb _ _ (sized (tested arg) .if1 .left) in
+    let digits = sym (tested arg .all-hex-digits .ensures) ∙ not-false _ (arg .before .if2 .left) in
+    (simp (size, digits), simp (size, digits) (decoded .decode .ensures))
 
 pub read-spec : {M : Type 1} → statement M
 read-spec =
     tie.close
-    (tie.spec mul-if1 returns all-digits-requires returns-2 decode-requires same-length returns-3)
+    (tie.spec
+    (λ c. search needs) returns (λ c κs. search needs) returns-2 decode-requires (λ c. search needs) returns-3)

@@ -29,7 +29,10 @@ same-length c = search needs
 
 returns-2 : tie.Need-returns-2
 unfolding hasRoom writtenInto
-returns-2 c = let size = eq-eqb _ _ (c .before .before .before .before .if1 .left) in (simp size, simp size (c .before .before .encode .ensures))
+returns-2 c =
+    let encoded = c .before .before in
+    let size = eq-eqb _ _ (encoded .before .before .if1 .left) in
+    (simp size, simp size (encoded .encode .ensures))
 
 pub write-spec : {M : Type 1} → statement M
 write-spec = tie.close (tie.spec mul-if1 returns encode-requires same-length returns-2)

@@ -1,2 +1,0 @@
-pub mod BufferLaws
-pub mod LineLaws
