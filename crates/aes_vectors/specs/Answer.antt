@@ -11,12 +11,20 @@ use Rattle.hex.specs.Hex.{hex, isHex, unhex}
 use Rattle.fields.specs.Fields.{isHexField, octetsIn}
 use Rattle.console.specs.Turns.{Answer, AnswersAll}
 
+-- the bytes of a line that is well formed
+abbrev pub lineSize : ℕ
+lineSize = 65
+
+-- room for every answer
+abbrev pub room : ℕ
+room = 33
+
 -- the key field, 32 characters, then a space and the 32 of the plaintext field
 abbrev pub keyField : List ℕ → List ℕ
 keyField line = part 0 32 line
 
 unfoldable pub wellFormed : List ℕ → Bool
-wellFormed line = eqb (length line) 65 && (isHex 16 (keyField line) && isHexField 16 32 line)
+wellFormed line = eqb (length line) lineSize && (isHex 16 (keyField line) && isHexField 16 32 line)
 
 -- the ciphertext of a line
 unfoldable pub ciphertext : List ℕ → Octets
@@ -36,4 +44,4 @@ lineAnswer state line = record { text = answerText line; after = state }
 
 -- what is written out is the answers to the lines of the input. The line buffer has more bytes than a line that is well formed
 abbrev pub Serves : Type 0
-Serves = (size room : ℕ) → 65 < size → AnswersAll lineAnswer tt size room
+Serves = (size room : ℕ) → lineSize < size → AnswersAll lineAnswer tt size room

@@ -3,10 +3,10 @@ use mathlib.Core.Path.{_≡_, ap, _∙_}
 use lib.ListN.{length, take, drop}
 use lib.Seq.{take-append-seam}
 use Rattle.octets.specs.Octets.{Octets, zeros}
-use Rattle.bench_writer.specs.Replies.{textOf, written}
+use Rattle.bench_writer.specs.Replies.{room, textOf, written}
 use Rattle.bench_core.specs.Bench.{Bench, Stepped, step, stepped}
 
-module _ (bench : Bench) (line : Octets) {s : Stepped} (e : s ≡ stepped bench line (zeros 96)) where
+module _ (bench : Bench) (line : Octets) {s : Stepped} (e : s ≡ stepped bench line (zeros room)) where
   pub bench-is : s .bench ≡ step bench line .bench
   unfolding stepped
   bench-is = ap (λ (x : Stepped). x .bench) e
@@ -15,4 +15,4 @@ module _ (bench : Bench) (line : Octets) {s : Stepped} (e : s ≡ stepped bench 
   unfolding stepped written
   text-is =
       let text = textOf (step bench line .reply) in
-      ap (λ (x : Stepped). take (x .size) (x .buffer)) e ∙ take-append-seam text (drop (length text) (zeros 96))
+      ap (λ (x : Stepped). take (x .size) (x .buffer)) e ∙ take-append-seam text (drop (length text) (zeros room))

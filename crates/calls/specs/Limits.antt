@@ -1,6 +1,10 @@
 -- How much a line of `calls` may hold. Assumes nothing: these are definitions.
 use Prim.Native.Nat.{ℕ}
 
+-- the bytes of the longest line that is answered, and of the longest answer
+abbrev pub longest : ℕ
+longest = 4096
+
 -- the fields of a line
 abbrev pub mostFields : ℕ
 mostFields = 40

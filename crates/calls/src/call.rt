@@ -4,7 +4,7 @@ use functions::Keys;
 ghost use Prim.Native.Nat.{_<_, _≤_};
 ghost use Rattle.calls.specs.Limits.{mostFields, mostLent};
 
-// The bytes of the longest line that is answered.
+// The bytes of the longest line that is answered, and of the longest answer.
 pub const LONGEST: usize = 4096;
 
 // The octets of the largest buffer that is lent for an image or a batch.

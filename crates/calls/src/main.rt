@@ -8,12 +8,13 @@ mod vlr_calls;
 use console::Progress;
 use vlr::Vlr;
 use vlr_calls::Answered;
-ghost use Prim.Native.Nat.{ℕ, _≤_};
+ghost use Prim.Native.Nat.{ℕ, _+_, _*_, _≤_};
 ghost use mathlib.Core.List.{List};
 ghost use lib.ListN.{length};
 ghost use Rattle.aka.specs.Vlr.{newVlr};
 ghost use Rattle.vlr_record.specs.Views.{vlrOf};
 ghost use Rattle.console.specs.Turns.{AnsweredIf, Ran, standingOf};
+ghost use Rattle.calls.specs.Limits.{longest};
 ghost use Rattle.calls.specs.Program.{AnyAnswer};
 
 // The answer to a line, and the node for the next one.
@@ -37,7 +38,7 @@ pub struct Turn {
 
 // Answers the line where it is whole. The buffer of answers has room for two.
 fn put_answer(node: Vlr, line: &[u8], out: &mut [u8], p: Progress) -> Turn
-    requires { ⌜ 8194 ≤ length (now out) ⌝ }
+    requires { ⌜ 2 * (longest + 1) ≤ length (now out) ⌝ }
     ensures { λ r. ⌜
         ((piece : List ℕ) → AnsweredIf (p .ready) AnyAnswer (length (now (out .entry)))
         (vlrOf node) (standingOf piece (now (line .entry)) (now (out .entry)) p)
@@ -63,7 +64,7 @@ fn put_answer(node: Vlr, line: &[u8], out: &mut [u8], p: Progress) -> Turn
 
 // Answers every line of the input. A proved loop has to end, so this one counts its turns down, from a number that no run uses up.
 fn answer_all(piece: &mut [u8], line: &mut [u8], out: &mut [u8]) -> Turn
-    requires { ⌜ 8194 ≤ length (now out) ⌝ }
+    requires { ⌜ 2 * (longest + 1) ≤ length (now out) ⌝ }
     ensures { λ r. ⌜
         Ran AnyAnswer newVlr (length (now (line .entry))) (length (now (out .entry)))
         (vlrOf (r .node)) (standingOf (now (piece .exit)) (now (line .exit)) (now (out .exit)) (r .progress))

@@ -11,7 +11,7 @@ use lib.Seq.{append-snoc, take-all, take-nil}
 use Rattle.console.specs.Lines.{before, hasNewline, lastLine, lines, pastNewline, upToNewline}
 use Rattle.console.specs.Turns.{Answer, Answering, AnswersAll, Chain, Claim, Given, Gives, History, Run, Served, SoFar, Standing}
 use Rattle.console.specs.Turns.{advanced, answer, answered, atFirst, begin, due, ended, exchanged, isEmpty, lineEnds, longer}
-use Rattle.console.specs.Turns.{notDue, reads, stopped, taken, transcript, turn, writes}
+use Rattle.console.specs.Turns.{notDue, reads, stopped, partTaken, transcript, turn, writes}
 use Rattle.console.proofs.LineLaws.{all-of-it, before-more, before-none, cut-before, lines-before, lines-first}
 
 -- ---- the lines that are still to be answered, by what the line buffer holds, where the input goes on with `more`
@@ -194,7 +194,7 @@ module _ {S : Type 0} (Answers : Answering S) (first : S) (longest room : ℕ) (
     chain : Chain Answers first (h .given) state
 
   agrees : {h : History S} {state : S} {s : Standing} → Run Answers first longest room h state s → Agrees h state s
-  unfolding leftOf advanced stopped exchanged taken reads answered Chain flatten
+  unfolding leftOf advanced stopped exchanged partTaken reads answered Chain flatten
   agrees begin = record {
     coming = λ more end. ap (map (take longest)) (before-none (lines more));
     at-end = λ e. absurd (false≢true e);

@@ -10,7 +10,7 @@ use lib.ListN.{drop, length, take}
 use lib.Seq.{drop-drop}
 use Rattle.octets.proofs.Walks.{drop-min}
 use Rattle.console.specs.Lines.{hasNewline, pastNewline, upToNewline}
-use Rattle.console.specs.Turns.{Standing, exchanged, isEmpty, lineEnds, longer, notDue, reads, standing, taken, writes}
+use Rattle.console.specs.Turns.{Standing, exchanged, isEmpty, lineEnds, longer, notDue, reads, standing, partTaken, writes}
 use Rattle.console.proofs.BufferLaws.{less}
 use Rattle.console.proofs.LineLaws.{rest}
 
@@ -73,6 +73,6 @@ next-place came at {from} {n} f e =
 -- a part is taken
 pub was-taken : (longest : ℕ) (s : Standing) {piece line : List ℕ} {ends : Bool} → piece ≡ pastNewline (s .piece)
     → line ≡ longer longest (s .line) (upToNewline (s .piece)) → ends ≡ lineEnds (s .piece) (s .over) line
-    → standing piece line (s .waiting) ends (s .over) (s .failed) ≡ taken longest s
-unfolding taken
+    → standing piece line (s .waiting) ends (s .over) (s .failed) ≡ partTaken longest s
+unfolding partTaken
 was-taken longest s p l e = rw (p, e, l)

@@ -75,8 +75,8 @@ unfoldable pub lineEnds : (piece : List ℕ) (over : Bool) (line : List ℕ) →
 lineEnds piece over line = hasNewline piece || over && not (isEmpty line)
 
 -- after a part of the line was taken, up to a newline or the end of the piece
-unfoldable pub taken : (longest : ℕ) → Standing → Standing
-taken longest s =
+unfoldable pub partTaken : (longest : ℕ) → Standing → Standing
+partTaken longest s =
     let line = longer longest (s .line) (upToNewline (s .piece)) in
     standing (pastNewline (s .piece)) line (s .waiting) (lineEnds (s .piece) (s .over) line) (s .over) (s .failed)
 
@@ -85,7 +85,7 @@ unfoldable pub stopped : Standing → Standing
 stopped s = standing (s .piece) (s .line) (s .waiting) (s .ready) (s .over) true
 
 unfoldable pub advanced : (longest room : ℕ) → Standing → (failed : Bool) → (came : List ℕ) → Standing
-advanced longest room s failed came = cond failed (stopped s) (taken longest (exchanged room s came))
+advanced longest room s failed came = cond failed (stopped s) (partTaken longest (exchanged room s came))
 
 -- ---- the answer: its text goes behind those that wait, and the next line begins
 

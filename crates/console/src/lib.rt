@@ -10,7 +10,7 @@ ghost use lib.ListN.{length, take, drop};
 ghost use Rattle.io.specs.Counts.{Counts};
 ghost use Rattle.console.specs.Buffers.{appended, bufferOf};
 ghost use Rattle.console.specs.Lines.{upToNewline};
-ghost use Rattle.console.specs.Turns.{advanced, endedAt, exchanged, standingOf, stopped, taken};
+ghost use Rattle.console.specs.Turns.{advanced, endedAt, exchanged, standingOf, stopped, partTaken};
 use libc::STDERR_FILENO;
 use libc::STDIN_FILENO;
 use libc::STDOUT_FILENO;
@@ -202,7 +202,7 @@ fn exchange(piece: &mut [u8], out: &[u8], p: Progress) -> Progress
 fn take_part(piece: &[u8], line: &mut [u8], p: Progress) -> Progress
     ensures standing { λ r. ⌜
         ((out : List ℕ) → standingOf (now (piece .entry)) (now (line .exit)) out r
-        ≡ taken (length (now (line .entry))) (standingOf (now (piece .entry)) (now (line .entry)) out p))
+        ≡ partTaken (length (now (line .entry))) (standingOf (now (piece .entry)) (now (line .entry)) out p))
         ⌝ }
     ensures size { λ r. ⌜ r .size ≡ p .size ⌝ }
 {

@@ -19,7 +19,8 @@ use Rattle.aka.specs.Functions.{Functions, Keys}
 use Rattle.functions.specs.Sets.{sets}
 use Rattle.function_vectors.specs.declared.Outputs.{Outputs}
 use Rattle.function_vectors.specs.Outputs.{Answers}
-use Rattle.function_vectors.specs.Answer.{answerText, challengeFormed, keysFormed, keysOn, outputsOf, outputsText, wellFormed}
+use Rattle.function_vectors.specs.Answer.{answerText, challengeFormed, keysFormed, keysOn, lineSize}
+use Rattle.function_vectors.specs.Answer.{outputsOf, outputsText, wellFormed}
 
 -- octets in hex and a byte behind them, put into a text
 pub put-hex : (text octets : List ℕ) (used end : ℕ) {part : List ℕ} → used + 2 * length octets + 1 ≤ length text → part ≡ hex octets
@@ -81,12 +82,12 @@ text-of F rand sqn amf o a = rw (a .mac, a .macs, a .res, a .ck, a .ik, a .ak, a
 
 -- ---- the answer, in its three ways
 
-pub other-length : (line : List ℕ) {text : List ℕ} → (length line ≡ 118 → ⊥) → text ≡ ascii "bad line\n" → text ≡ answerText line
+pub other-length : (line : List ℕ) {text : List ℕ} → (length line ≡ lineSize → ⊥) → text ≡ ascii "bad line\n" → text ≡ answerText line
 unfolding answerText wellFormed
 other-length line h is = rw (ne-eqb _ _ h) is
 
 -- a line of the right length
-module _ (line : List ℕ) (size : length line ≡ 118) where
+module _ (line : List ℕ) (size : length line ≡ lineSize) where
   formed : (b : Bool) → keysFormed line && challengeFormed line ≡ b → wellFormed line ≡ b
   unfolding wellFormed
   formed b e = rw (eq-eqb _ _ size) e

@@ -14,6 +14,9 @@ use Rattle.console.specs.Turns.{Answer, AnswersAll}
 
 -- ---- the line: one digit, then K, OPC and RAND of 16 octets, SQN of 6 and AMF of 2 in hex, each after a space
 
+abbrev pub lineSize : ℕ
+lineSize = 118
+
 unfoldable pub keysFormed : List ℕ → Bool
 keysFormed line = leb 48 (getD line 0 0) && leb (getD line 0 0) 57 && (isHexField 16 1 line && isHexField 16 34 line)
 
@@ -21,12 +24,20 @@ unfoldable pub challengeFormed : List ℕ → Bool
 challengeFormed line = isHexField 16 67 line && (isHexField 6 100 line && isHexField 2 113 line)
 
 unfoldable pub wellFormed : List ℕ → Bool
-wellFormed line = eqb (length line) 118 && (keysFormed line && challengeFormed line)
+wellFormed line = eqb (length line) lineSize && (keysFormed line && challengeFormed line)
 
 unfoldable pub keysOn : List ℕ → Keys
 keysOn line = record { set = getD line 0 0 - 48; k = octetsIn 16 1 line; opc = octetsIn 16 34 line }
 
 -- ---- the answer: MAC, MAC-S, RES, CK, IK, AK and AK* in hex, with a space between
+
+-- room for every answer
+abbrev pub room : ℕ
+room = 143
+
+-- the bytes of the first three outputs
+abbrev pub macsSize : ℕ
+macsSize = 51
 
 unfoldable pub outputsText : (mac macs res ck ik ak aks : Octets) → List ℕ
 outputsText mac macs res ck ik ak aks =
@@ -57,4 +68,4 @@ lineAnswer state line = record { text = answerText line; after = state }
 
 -- what is written out is the answers to the lines of the input. The line buffer has more bytes than a line that is well formed
 abbrev pub Serves : Type 0
-Serves = (size room : ℕ) → 118 < size → AnswersAll lineAnswer tt size room
+Serves = (size room : ℕ) → lineSize < size → AnswersAll lineAnswer tt size room

@@ -7,6 +7,7 @@ ghost use mathlib.Core.Bool.{true};
 ghost use mathlib.Core.List.{List, [], _∷_, _++_};
 ghost use mathlib.Core.Path.{_≡_};
 ghost use lib.ListN.{getD, length, take};
+ghost use Rattle.octets.specs.Ascii.{ascii};
 ghost use Rattle.octets.specs.Octets.{zeros};
 ghost use Rattle.aes_tables.specs.RoundTable.{IsRoundTable};
 ghost use Rattle.hex.specs.Hex.{hex};
@@ -15,7 +16,17 @@ ghost use Rattle.functions.specs.Sets.{sets};
 ghost use Rattle.functions.specs.Challenge.{keysOf};
 ghost use Rattle.console.specs.Turns.{AnsweredIf, Gives, Ran, standingOf};
 ghost use Rattle.function_vectors.specs.Outputs.{Answers};
-ghost use Rattle.function_vectors.specs.Answer.{answerText, lineAnswer, challengeFormed, keysFormed, outputsText};
+ghost use Rattle.function_vectors.specs.Answer.{answerText, challengeFormed, keysFormed, lineAnswer};
+ghost use Rattle.function_vectors.specs.Answer.{lineSize, macsSize, outputsText, room};
+
+// The bytes of a line that is well formed.
+const LINE_SIZE: usize = 118;
+
+// Room for every answer.
+const ROOM: usize = 143;
+
+// The bytes of MAC, MAC-S and RES in an answer.
+const MACS_SIZE: usize = 51;
 
 // ---- the outputs
 
@@ -67,25 +78,25 @@ fn put_hex(text: &mut [u8], used: usize, octets: &[u8], end: u8) -> usize
     last + 1
 }
 
-// Writes MAC, MAC-S and RES to the front of the text, 51 bytes.
+// Writes MAC, MAC-S and RES to the front of the text.
 fn put_macs(text: &mut [u8], mac: [u8; 8], macs: [u8; 8], res: [u8; 8])
-    requires { ⌜ 51 ≤ length (now text) ⌝ }
-    ensures { λ _. ⌜ take 51 (now (text .exit)) ≡ (hex mac ++ (32 ∷ [])) ++ (hex macs ++ (32 ∷ [])) ++ (hex res ++ (32 ∷ [])) ⌝ }
+    requires { ⌜ macsSize ≤ length (now text) ⌝ }
+    ensures { λ _. ⌜ take macsSize (now (text .exit)) ≡ (hex mac ++ ascii " ") ++ (hex macs ++ ascii " ") ++ (hex res ++ ascii " ") ⌝ }
 {
     let n = put_hex(text, 0, &mac, b' ');
     let n = put_hex(text, n, &macs, b' ');
     put_hex(text, n, &res, b' ');
 }
 
-// Writes CK, IK, AK and AK* behind the first 51 bytes of the text.
+// Writes CK, IK, AK and AK* behind them.
 fn put_keys(text: &mut [u8], ck: [u8; 16], ik: [u8; 16], ak: [u8; 6], aks: [u8; 6]) -> usize
-    requires { ⌜ 143 ≤ length (now text) ⌝ }
+    requires { ⌜ room ≤ length (now text) ⌝ }
     ensures { λ r. ⌜
-        take r (now (text .exit)) ≡ take 51 (now (text .entry)) ++ (hex ck ++ (32 ∷ [])) ++ (hex ik ++ (32 ∷ [])) ++ (hex ak ++ (32 ∷ []))
-        ++ (hex aks ++ (10 ∷ []))
+        take r (now (text .exit)) ≡ take macsSize (now (text .entry)) ++ (hex ck ++ ascii " ") ++ (hex ik ++ ascii " ")
+        ++ (hex ak ++ ascii " ") ++ (hex aks ++ ascii "\n")
         ⌝ }
 {
-    let n = put_hex(text, 51, &ck, b' ');
+    let n = put_hex(text, MACS_SIZE, &ck, b' ');
     let n = put_hex(text, n, &ik, b' ');
     let n = put_hex(text, n, &ak, b' ');
     put_hex(text, n, &aks, b'\n')
@@ -93,7 +104,7 @@ fn put_keys(text: &mut [u8], ck: [u8; 16], ik: [u8; 16], ak: [u8; 6], aks: [u8; 
 
 // Writes the outputs on one line to the front of the text, and returns its length.
 fn put_outputs(text: &mut [u8], o: Outputs) -> usize
-    requires { ⌜ 143 ≤ length (now text) ⌝ }
+    requires { ⌜ room ≤ length (now text) ⌝ }
     ensures { λ r. ⌜ take r (now (text .exit)) ≡ outputsText (o .mac) (o .macs) (o .res) (o .ck) (o .ik) (o .ak) (o .aks) ⌝ }
 {
     let mac = o.mac;
@@ -116,7 +127,7 @@ pub struct ReadKeys {
 }
 
 fn read_keys(line: &[u8]) -> ReadKeys
-    requires { ⌜ length (now line) ≡ 118 ⌝ }
+    requires { ⌜ length (now line) ≡ lineSize ⌝ }
     ensures formed { λ r. ⌜ r .formed ≡ keysFormed (now (line .entry)) ⌝ }
     ensures set { λ r. ⌜ (keysFormed (now (line .entry)) ≡ true → r .keys .set ≡ getD (now (line .entry)) 0 0 - 48) ⌝ }
     ensures octets { λ r. ⌜
@@ -175,10 +186,10 @@ fn read_challenge(line: &[u8]) -> ReadChallenge
 // set.
 fn write_answer(table: &[u32; 256], line: &[u8], text: &mut [u8]) -> usize
     requires table { ⌜ IsRoundTable (now table) ⌝ }
-    requires text { ⌜ 143 ≤ length (now text) ⌝ }
+    requires text { ⌜ room ≤ length (now text) ⌝ }
     ensures { λ r. ⌜ take r (now (text .exit)) ≡ answerText (now (line .entry)) ⌝ }
 {
-    if line.len() != 118 {
+    if line.len() != LINE_SIZE {
         return console::append(text, 0, b"bad line\n");
     }
     let read = read_keys(line);
@@ -201,7 +212,7 @@ fn write_answer(table: &[u32; 256], line: &[u8], text: &mut [u8]) -> usize
 // Answers the line where it is whole. The buffer of answers has room for two.
 fn answer(table: &[u32; 256], line: &[u8], out: &mut [u8], p: Progress) -> Progress
     requires table { ⌜ IsRoundTable (now table) ⌝ }
-    requires out { ⌜ 286 ≤ length (now out) ⌝ }
+    requires out { ⌜ 2 * room ≤ length (now out) ⌝ }
     ensures { λ r. ⌜
         ((piece : List ℕ) → AnsweredIf (p .ready) (Gives lineAnswer) (length (now (out .entry)))
         tt (standingOf piece (now (line .entry)) (now (out .entry)) p)
@@ -211,7 +222,7 @@ fn answer(table: &[u32; 256], line: &[u8], out: &mut [u8], p: Progress) -> Progr
     if !p.ready {
         return p;
     }
-    let mut text = [0u8; 143];
+    let mut text = [0u8; ROOM];
     let n = write_answer(table, console::first_bytes(line, p.held), &mut text);
     console::put_answer(out, p, console::first_bytes(&text, n))
 }
@@ -219,8 +230,8 @@ fn answer(table: &[u32; 256], line: &[u8], out: &mut [u8], p: Progress) -> Progr
 // Answers every line of the input. A proved loop has to end, so this one counts its turns down, from a number that no run uses up.
 fn answer_all(table: &[u32; 256], piece: &mut [u8], line: &mut [u8], out: &mut [u8]) -> Progress
     requires table { ⌜ IsRoundTable (now table) ⌝ }
-    requires line { ⌜ 118 < length (now line) ⌝ }
-    requires out { ⌜ 286 ≤ length (now out) ⌝ }
+    requires line { ⌜ lineSize < length (now line) ⌝ }
+    requires out { ⌜ 2 * room ≤ length (now out) ⌝ }
     ensures { λ r. ⌜
         Ran (Gives lineAnswer) tt (length (now (line .entry))) (length (now (out .entry)))
         tt (standingOf (now (piece .exit)) (now (line .exit)) (now (out .exit)) r)
@@ -243,7 +254,7 @@ fn answer_all(table: &[u32; 256], piece: &mut [u8], line: &mut [u8], out: &mut [
 fn main() {
     let table = aes::round_table();
     let mut piece = io::large_buffer();
-    let mut line = [0u8; 119];
+    let mut line = [0u8; LINE_SIZE + 1];
     let mut out = io::large_buffer();
     answer_all(&table, &mut piece, &mut line, &mut out);
 }

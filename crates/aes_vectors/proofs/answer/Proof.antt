@@ -34,7 +34,7 @@ text c = shown c .first-bytes2 .result .now
 text-is : (c : tie.After-put-answer) → text c ≡ answerText (take (entry c .args .p .held) (entry c .args .line .now))
 text-is c = shown c .first-bytes2 .ensures ∙ made c .write-answer .ensures ∙ ap answerText (held c .first-bytes .ensures)
 
--- an answer has at most 33 bytes
+-- an answer fits in the room for it
 short : (c : tie.After-put-answer) → length (text c) ≤ length (entry c .args .out .now) / 2
 short c =
     let size = simp length-take at (ap length (shown c .first-bytes2 .ensures)) in

@@ -11,7 +11,7 @@ use lib.Seq.{length-take-le}
 use Rattle.hex.specs.Hex.{hasRoom, hex, isHex, readInto, unhex, writtenInto}
 use Rattle.fields.specs.Fields.{isHexField, octetsIn, readFieldInto}
 use Rattle.aes.specs.Cipher.{aes}
-use Rattle.aes_vectors.specs.Answer.{answered, ciphertext, keyField, wellFormed}
+use Rattle.aes_vectors.specs.Answer.{answered, ciphertext, keyField, lineSize, wellFormed}
 use Rattle.aes_vectors.proofs.ciphertext.Statement.{statement}
 use Rattle.aes_vectors.proofs.ciphertext.Tie as tie
 
@@ -25,7 +25,7 @@ unfolding answered
 accepted text line octets e is = rw (e, is)
 
 -- the tests of the code, on a line of the right length
-formed : (line : List ℕ) {key block : Bool} → length line ≡ 65 → key ≡ isHex 16 (keyField line) → block ≡ isHexField 16 32 line
+formed : (line : List ℕ) {key block : Bool} → length line ≡ lineSize → key ≡ isHex 16 (keyField line) → block ≡ isHexField 16 32 line
     → key && block ≡ wellFormed line
 unfolding wellFormed
 formed line size k b = rw (eq-eqb _ _ size, k, b)

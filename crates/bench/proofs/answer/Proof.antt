@@ -47,7 +47,7 @@ answers c =
     ap₂ (λ (t : List ℕ) (b : Bench). record { text = t; after = b }) is (bench-is bench line (stepped c .step .ensures))
     ∙ ap (lineAnswer bench) (held c .first-bytes .ensures)
 
--- an answer has at most 96 bytes
+-- an answer fits in the room for a text
 short : (c : tie.After-put-answer) → length (text c) ≤ length (entry c .args .out .now) / 2
 short c =
     let size = simp length-take at (ap length (shown c .first-bytes2 .ensures)) in

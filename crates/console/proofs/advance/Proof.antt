@@ -5,7 +5,7 @@ use mathlib.Core.List.{List}
 use mathlib.Core.Path.{_≡_, sym, ap, _∙_}
 use lib.ListN.{length, take}
 use borrow.Author.Needs.{needs}
-use Rattle.console.specs.Turns.{Standing, advanced, exchanged, standingOf, stopped, taken}
+use Rattle.console.specs.Turns.{Standing, advanced, exchanged, standingOf, stopped, partTaken}
 use Rattle.console.proofs.advance.Statement.{statement}
 use Rattle.console.proofs.advance.Tie as tie
 
@@ -19,9 +19,9 @@ unfolding advanced
 failed longest room s came e is = rw e (is ∙ rw e)
 
 went : (longest room : ℕ) (s : Standing) (came : List ℕ) {met r : Standing} {b after : Bool} → b ≡ false → after ≡ b
-    → met ≡ cond b (stopped s) (exchanged room s came) → r ≡ taken longest met → r ≡ advanced longest room s after came
+    → met ≡ cond b (stopped s) (exchanged room s came) → r ≡ partTaken longest met → r ≡ advanced longest room s after came
 unfolding advanced
-went longest room s came e same is next = rw (same, e) (next ∙ ap (taken longest) (is ∙ rw e))
+went longest room s came e same is next = rw (same, e) (next ∙ ap (partTaken longest) (is ∙ rw e))
 
 returns : tie.Need-returns
 returns c =
@@ -32,7 +32,7 @@ returns c =
     (c .if1 .taken) (met .exchange .ensures (args .line .now))
 
 returns-2 : tie.Need-returns-2
-unfolding taken
+unfolding partTaken
 returns-2 c =
     let next = c .before .before in
     let left = next .before .before .before in

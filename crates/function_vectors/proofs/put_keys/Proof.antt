@@ -1,8 +1,9 @@
 -- `put_keys` puts CK, IK, AK and AK* one behind the other. Assumes nothing.
 use Prim.Native.Nat.{ℕ}
-use mathlib.Core.List.{List, [], _∷_, _++_}
+use mathlib.Core.List.{List, _++_}
 use mathlib.Core.Path.{_≡_, ap, _∙_}
 use borrow.Author.Needs.{needs}
+use Rattle.octets.specs.Ascii.{ascii}
 use Rattle.hex.specs.Hex.{hex}
 use Rattle.function_vectors.proofs.put_keys.Statement.{statement}
 use Rattle.function_vectors.proofs.put_keys.Tie as tie
@@ -25,10 +26,10 @@ returns c =
     let last = c .before .before in
     let args = entry last .args in
     last .put-hex4 .ensures .1
-    ∙ ap (λ (l : List ℕ). l ++ (hex (args .t5) ++ (10 ∷ [])))
+    ∙ ap (λ (l : List ℕ). l ++ (hex (args .t5) ++ ascii "\n"))
     (third last .put-hex3 .ensures .1
-    ∙ ap (λ (l : List ℕ). l ++ (hex (args .t4) ++ (32 ∷ [])))
-    (second last .put-hex2 .ensures .1 ∙ ap (λ (l : List ℕ). l ++ (hex (args .t3) ++ (32 ∷ []))) (first last .put-hex .ensures .1)))
+    ∙ ap (λ (l : List ℕ). l ++ (hex (args .t4) ++ ascii " "))
+    (second last .put-hex2 .ensures .1 ∙ ap (λ (l : List ℕ). l ++ (hex (args .t3) ++ ascii " ")) (first last .put-hex .ensures .1)))
 
 pub put-keys-spec : {M : Type 1} → statement M
 put-keys-spec =

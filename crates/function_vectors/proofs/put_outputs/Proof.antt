@@ -1,8 +1,9 @@
 -- `put_outputs` puts the seven outputs on one line. Assumes nothing.
 use Prim.Native.Nat.{ℕ}
-use mathlib.Core.List.{List, [], _∷_, _++_}
+use mathlib.Core.List.{List, _++_}
 use mathlib.Core.Path.{ap, _∙_}
 use borrow.Author.Needs.{needs}
+use Rattle.octets.specs.Ascii.{ascii}
 use Rattle.hex.specs.Hex.{hex}
 use Rattle.function_vectors.specs.Answer.{outputsText}
 use Rattle.function_vectors.proofs.put_outputs.Statement.{statement}
@@ -23,7 +24,7 @@ returns c =
     last .put-keys .ensures
     ∙ ap
     (λ (l : List ℕ).
-    l ++ (hex (o .ck) ++ (32 ∷ [])) ++ (hex (o .ik) ++ (32 ∷ [])) ++ (hex (o .ak) ++ (32 ∷ [])) ++ (hex (o .aks) ++ (10 ∷ [])))
+    l ++ (hex (o .ck) ++ ascii " ") ++ (hex (o .ik) ++ ascii " ") ++ (hex (o .ak) ++ ascii " ") ++ (hex (o .aks) ++ ascii "\n"))
     (macs last .put-macs .ensures)
 
 pub put-outputs-spec : {M : Type 1} → statement M
