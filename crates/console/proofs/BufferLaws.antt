@@ -50,10 +50,15 @@ module _ (bytes : List ℕ) (used : ℕ) (part : List ℕ) {from n : ℕ} (kept 
       length-append (take from bytes) (take n part) ∙ ap (λ (k : ℕ). k + length (take n part)) (length-take-le from bytes (omega arith)) in
       rw (← size) (ap (λ (l : List ℕ). filledWith l bytes) front-is)
 
--- of `waits` bytes at the front of a buffer, all or none are taken off
+-- of what waits at the front of a buffer, all or none
+pub all-or-none : (all : Bool) (waits : List ℕ) → take (cond all (length waits) 0) waits ≡ cond all waits []
+all-or-none true waits = take-length waits
+all-or-none false waits = refl
+
+-- and what is left without it
 pub less : (out : List ℕ) (used : ℕ) (all : Bool) {waits : List ℕ} → waits ≡ take used out
-    → take (length waits - length (take (cond all (length waits) 0) waits)) out ≡ cond all [] waits
-less out used true {waits} e = rw (take-length waits) (let none : length waits - length waits ≡ 0 = omega arith in rw none)
+    → take (length waits - length (cond all waits [])) out ≡ cond all [] waits
+less out used true {waits} e = let none : length waits - length waits ≡ 0 = omega arith in rw none
 less out used false {waits} e =
     let all : length waits - 0 ≡ length waits = omega arith in
     rw all (ap (λ (l : List ℕ). take (length l) out) e ∙ front-again used out ∙ sym e)

@@ -1,5 +1,5 @@
 -- The steps of a turn, as the code takes them, are those of the definitions. Assumes nothing.
-use Prim.Native.Nat.{ℕ, suc, _+_, _-_, _/_, min}
+use Prim.Native.Nat.{ℕ, suc, _+_, _-_, _/_, _≤_, min}
 use mathlib.Core.Bool.{Bool, true, false, _&&_, _||_, not, cond}
 use mathlib.Core.List.{List, [], _∷_}
 use mathlib.Core.Path.{_≡_, refl, sym, ap, ap₂, _∙_}
@@ -10,8 +10,8 @@ use lib.ListN.{drop, length, take}
 use lib.Seq.{drop-drop}
 use Rattle.octets.proofs.Walks.{drop-min}
 use Rattle.console.specs.Lines.{hasNewline, pastNewline, upToNewline}
-use Rattle.console.specs.Turns.{Standing, exchanged, isEmpty, lineEnds, longer, notDue, reads, standing, partTaken, writes}
-use Rattle.console.proofs.BufferLaws.{less}
+use Rattle.console.specs.Turns.{Standing, due, exchanged, isEmpty, lineEnds, longer, notDue, reads, standing, partTaken, writes}
+use Rattle.console.proofs.BufferLaws.{all-or-none, less}
 use Rattle.console.proofs.LineLaws.{rest}
 
 -- ---- the code's tests
@@ -39,14 +39,28 @@ reads-is s {left} kept l e =
     both true b = refl
 
 module _ (room : ℕ) (s : Standing) where
-  -- what still waits: all of `waits` or nothing, as the count of what is due says
-  pub still-waits : (out : List ℕ) (used : ℕ) {left waits handed : List ℕ} {count n : ℕ} → s .waiting ≡ take used out → left ≡ s .piece
-      → waits ≡ s .waiting → count ≡ cond (eqb (length left) 0 || ltb (room / 2) (length waits)) (length waits) 0
-      → handed ≡ take count waits → n ≡ length handed → take (length waits - n) out ≡ notDue room s
-  unfolding notDue writes
-  still-waits out used {left} {waits} stands l w counted h n =
-      rw (n, h, counted) (less out used (eqb (length left) 0 || ltb (room / 2) (length waits)) (w ∙ stands))
-      ∙ ap₂ (λ (x : Bool) (y : List ℕ). cond (x || ltb (room / 2) (length y)) [] y) (is-empty left ∙ ap isEmpty l) w
+  -- what is due, as the code counts it
+  pub due-is : {left waits handed : List ℕ} {count : ℕ} → left ≡ s .piece → waits ≡ s .waiting
+      → count ≡ cond (eqb (length left) 0 || ltb (room / 2) (length waits)) (length waits) 0 → handed ≡ take count waits
+      → handed ≡ due room s
+  unfolding due writes
+  due-is {left} {waits} l w counted h =
+      h ∙ ap (λ (n : ℕ). take n waits) counted ∙ all-or-none (eqb (length left) 0 || ltb (room / 2) (length waits)) waits
+      ∙ ap₂ (λ (x : Bool) (y : List ℕ). cond (x || ltb (room / 2) (length y)) y []) (is-empty left ∙ ap isEmpty l) w
+
+  pub due-waits : {waits : List ℕ} {n : ℕ} → waits ≡ s .waiting → n ≡ length (due room s) → n ≤ length waits
+  unfolding due
+  due-waits w n = rw (n, w) (go (writes room s))
+    where
+      go : (b : Bool) → length (cond b (s .waiting) []) ≤ length (s .waiting)
+      go true = omega arith
+      go false = omega arith
+
+  -- what still waits
+  pub still-waits : (out : List ℕ) (used : ℕ) {waits : List ℕ} {n : ℕ} → s .waiting ≡ take used out → waits ≡ s .waiting
+      → n ≡ length (due room s) → take (length waits - n) out ≡ notDue room s
+  unfolding due notDue
+  still-waits out used stands w n = rw (n, w) (less out used (writes room s) stands)
 
   -- nothing is read
   pub not-read : (came : List ℕ) {waits : List ℕ} → reads s ≡ false → waits ≡ notDue room s

@@ -1,6 +1,6 @@
 // What programs that answer lines share: one piece of the input at a time, a buffer for the line, and one in which answers wait until
 // they are written out. A program's loop is `advance`, then its own answer where the line is whole, until `is_ended`. All that no
-// contract can say lies in `write_out` and `fetch`: what a read brought, and whether a write arrived.
+// contract can say lies in `write_due` and `fetch`: what a read brought, whether a write arrived, and that it was of the bytes due.
 ghost use Prim.Native.Nat.{ℕ, min, _/_};
 ghost use mathlib.Core.Bool.{Bool, true, false, _&&_, _||_, not, cond};
 ghost use mathlib.Core.List.{List};
@@ -10,7 +10,7 @@ ghost use lib.ListN.{length, take, drop};
 ghost use Rattle.io.specs.Counts.{Counts};
 ghost use Rattle.console.specs.Buffers.{appended, bufferOf};
 ghost use Rattle.console.specs.Lines.{upToNewline};
-ghost use Rattle.console.specs.Turns.{advanced, endedAt, exchanged, standingOf, stopped, partTaken};
+ghost use Rattle.console.specs.Turns.{advanced, due, endedAt, exchanged, standingOf, stopped, partTaken};
 use libc::STDERR_FILENO;
 use libc::STDIN_FILENO;
 use libc::STDOUT_FILENO;
@@ -104,6 +104,35 @@ fn untaken<'a>(piece: &'a [u8], p: Progress) -> &'a [u8]
     &came[at..]
 }
 
+// ---- what is written out
+
+// How many of the `waiting` bytes in a buffer of `room` are due, where `left` bytes of the piece are not taken yet: all where it is used
+// up, so that a person who types is answered before the next read, and where more than half of the buffer is used, so that the next
+// answer has room.
+fn count_due(left: usize, waiting: usize, room: usize) -> usize
+    ensures { λ r. ⌜ r ≡ cond (eqb left 0 || ltb (room / 2) waiting) waiting 0 ⌝ }
+{
+    if left == 0 {
+        return waiting;
+    }
+    if room / 2 < waiting {
+        return waiting;
+    }
+    0
+}
+
+// The answers that are due: of those that wait in `out` all or none.
+fn due_part<'a>(piece: &[u8], out: &'a [u8], p: Progress) -> &'a [u8]
+    ensures { λ r. ⌜
+        ((line : List ℕ) → now r
+        ≡ due (length (now (out .entry))) (standingOf (now (piece .entry)) line (now (out .entry)) p))
+        ⌝ }
+{
+    let left = untaken(piece, p).len();
+    let waiting = first_bytes(out, p.used);
+    first_bytes(waiting, count_due(left, waiting.len(), out.len()))
+}
+
 // ---- outside
 
 // How many bytes were handed to the writer, and whether they arrived.
@@ -112,10 +141,14 @@ pub struct Written {
     pub arrived: bool,
 }
 
-// Hands bytes to the standard output. Where there are none, no call is made.
-fn write_out(bytes: &[u8]) -> Written
-    ensures { λ r. ⌜ r .count ≡ length (now (bytes .entry)) ⌝ }
+// Hands what is due to the standard output. Where that is nothing, no call is made.
+fn write_due(piece: &[u8], out: &[u8], p: Progress) -> Written
+    ensures { λ r. ⌜
+        ((line : List ℕ) → r .count
+        ≡ length (due (length (now (out .entry))) (standingOf (now (piece .entry)) line (now (out .entry)) p)))
+        ⌝ }
 {
+    let bytes = due_part(piece, out, p);
     let arrived = io::write_all(STDOUT_FILENO, bytes);
     Written {
         count: bytes.len(),
@@ -134,21 +167,6 @@ fn fetch(piece: &mut [u8]) -> usize
 
 // ---- a turn
 
-// How many of the `waiting` bytes in a buffer of `room` are written out, where `left` bytes of the piece are not taken yet: all where it
-// is used up, so that a person who types is answered before the next read, and where more than half of the buffer is used, so that the
-// next answer has room.
-fn count_due(left: usize, waiting: usize, room: usize) -> usize
-    ensures { λ r. ⌜ r ≡ cond (eqb left 0 || ltb (room / 2) waiting) waiting 0 ⌝ }
-{
-    if left == 0 {
-        return waiting;
-    }
-    if room / 2 < waiting {
-        return waiting;
-    }
-    0
-}
-
 // Writes out what is due, and reads the next piece where the last one is used up. What was written out no longer waits. A write that
 // fails is told on the standard error, and nothing is read.
 fn exchange(piece: &mut [u8], out: &[u8], p: Progress) -> Progress
@@ -160,8 +178,8 @@ fn exchange(piece: &mut [u8], out: &[u8], p: Progress) -> Progress
         ⌝ }
 {
     let left = untaken(piece, p).len();
-    let waiting = first_bytes(out, p.used);
-    let written = write_out(first_bytes(waiting, count_due(left, waiting.len(), out.len())));
+    let waiting = first_bytes(out, p.used).len();
+    let written = write_due(piece, out, p);
     if !written.arrived {
         io::write_all(STDERR_FILENO, b"the answers cannot be written\n");
         return Progress {
@@ -174,7 +192,7 @@ fn exchange(piece: &mut [u8], out: &[u8], p: Progress) -> Progress
             failed: true,
         };
     }
-    let used = waiting.len() - written.count;
+    let used = waiting - written.count;
     if (left != 0) | p.over {
         return Progress {
             at: p.at,
