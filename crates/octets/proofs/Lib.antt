@@ -1,5 +1,6 @@
 pub mod Absurd
 pub mod Xor
+pub mod Or
 pub mod Numbers
 pub mod Strings
 pub mod Tables
