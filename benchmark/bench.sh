@@ -1,6 +1,6 @@
 #!/usr/bin/env bash
-# The bench beside the second program's bench, in one run: a load of order and ask lines, rounds interleaved, user time. The ratio is the second
-# program's time over ours: above 1 is faster than it.
+# The bench beside the second program's bench, in one run: a load of order and ask lines, rounds interleaved, user time. The ratio is the
+# second program's time over ours: above 1 is faster than it.
 set -euo pipefail
 cd "$(dirname "$0")/.."
 lines=${1:-100000}

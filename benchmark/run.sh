@@ -23,7 +23,7 @@ if pkg-config --exists libosmogsm 2> "$work/log"; then
     read -ra flags <<< "$(pkg-config --cflags --libs libosmogsm)"
     cc -O3 -shared -fPIC -o "$work/peer.so" benchmark/peer.c "${flags[@]}"
     peer=("$work/peer.so")
-    echo "libosmogsm $(pkg-config --modversion libosmogsm): one RAND a call, no image; osmo_auth_gen_vec also derives the GSM keys SRES and Kc"
+    echo "libosmogsm $(pkg-config --modversion libosmogsm): one RAND a call, no image; osmo_auth_gen_vec also derives the GSM keys"
 else
     echo "libosmogsm is not installed (Debian: libosmocore-dev) and is left out"
 fi
