@@ -75,13 +75,14 @@ countFits count = leb 1 count && leb count mostVectors
 unfoldable pub batchFits : (count : ℕ) (batch : Octets) → Bool
 batchFits count batch = eqb (length batch) (placeSize * count)
 
--- the lowest of 1, 2, 3 and 7 that applies, else `rest`: whether the count is as named, the length of the lent part, and the state
-unfoldable pub refusalOr : Vlr → (count part state : Bool) (rest : ℕ) → ℕ
-refusalOr vlr count part state rest =
+-- the lowest of 1, 2, 3 and 7 that applies, else `rest`. `counted`, `sized`: the count and the lent part are as named; `named`: the
+-- operation is named for the state
+unfoldable pub refusalOr : Vlr → (counted sized named : Bool) (rest : ℕ) → ℕ
+refusalOr vlr counted sized named rest =
     cond (not (validVlr vlr)) 1
-    (cond (not count) 2
-    (cond (not part) 3
-    (cond (not state) 7
+    (cond (not counted) 2
+    (cond (not sized) 3
+    (cond (not named) 7
     rest)))
 
 -- ---- the answer
@@ -192,9 +193,9 @@ module _ (vlr : Vlr) where
   unfoldable pub ask : VlrAnswer
   ask = unlessRefused vlr askRefusal (request (oldestOut vlr))
 
-  -- of each operation in Asked; `part`: its lent part, if any, has the length named
-  unfoldable pub askedRefusal : (part : Bool) → ℕ
-  askedRefusal part = refusalOr vlr true part (isAsked (vlr .state)) 0
+  -- of each operation in Asked; `sized`: its lent part, if any, has the length named
+  unfoldable pub askedRefusal : (sized : Bool) → ℕ
+  askedRefusal sized = refusalOr vlr true sized (isAsked (vlr .state)) 0
 
   unfoldable pub again : VlrAnswer
   again = unlessRefused vlr (askedRefusal true) (request vlr)

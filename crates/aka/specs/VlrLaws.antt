@@ -201,7 +201,7 @@ pub record VlrPromise : Type 0 where
       → reply vlr (store count batch) .outcome ≡ refused 9
   -- refusal 1: 'held count past its range, unused node place or absent outstanding vector not zero'
   pub valid : (vlr : Vlr) → (validVlr vlr ≡ true)
-      ↔ ((vlr .held ≤ 16) × ((i : ℕ) → placeSize * vlr .held ≤ i → getD (vlr .queue) i 0 ≡ 0)
+      ↔ ((vlr .held ≤ mostHeld) × ((i : ℕ) → placeSize * vlr .held ≤ i → getD (vlr .queue) i 0 ≡ 0)
       × ((vlr .state ≡ asked → ⊥) → (i : ℕ) → getD (vlr .out) i 0 ≡ 0))
   pub new-valid : validVlr newVlr ≡ true
   pub new-shaped : Shaped newVlr

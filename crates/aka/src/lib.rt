@@ -46,8 +46,10 @@ pub const MAC_AT: usize = AMF_AT + AMF_SIZE;
 
 pub const AUTN_SIZE: usize = MAC_AT + MAC_SIZE;
 
-// AUTS: SQN_MS xor AK*, MAC-S.
-pub const AUTS_SIZE: usize = SQN_SIZE + MAC_SIZE;
+// AUTS: SQN_MS xor AK*, MAC-S; where MAC-S begins.
+pub const MAC_S_AT: usize = SQN_SIZE;
+
+pub const AUTS_SIZE: usize = MAC_S_AT + MAC_SIZE;
 
 // ---- a vector: where its parts begin, and its size; RAND stands first
 

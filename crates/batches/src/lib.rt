@@ -12,7 +12,7 @@ ghost use Rattle.functions.specs.Sets.{sets};
 ghost use Rattle.aka.specs.Layout.{randSize, vectorSize, mostVectors, writeVector, vectorOffset, vectorPart};
 ghost use Rattle.aka.specs.Sequence.{width, indices, limit};
 ghost use Rattle.aka.specs.Auc.{vectorFrom, batchFrom};
-ghost use Rattle.batches.specs.Views.{countedBy, offsetIn};
+ghost use Rattle.batches.specs.Views.{countedBy, offsetIn, startIn};
 
 // What the vectors of a batch are made with: their SEQ follow `from`, `next` is the index of all.
 pub struct Series {
@@ -106,7 +106,8 @@ pub fn offset_of(size: usize, k: u64) -> Offset
 
 // The vector at place k, as the part of the caller's own batch that begins at its offset; an empty part stands for refusal 3.
 pub fn vector_at<'a>(batch: &'a [u8], k: u64) -> &'a [u8]
-    ensures { λ r. ⌜ now r ≡ vectorPart (now (batch .entry)) k ⌝ }
+    ensures octets { λ r. ⌜ now r ≡ vectorPart (now (batch .entry)) k ⌝ }
+    ensures place { λ r. ⌜ r .ptr ≡ startIn (vectorOffset (length (now (batch .entry))) k) (batch .entry .ptr) ⌝ }
 {
     let offset = offset_of(batch.len(), k);
     let Offset::At(at) = offset else {

@@ -16,9 +16,6 @@ const LENT_SIZES: u64 = MOST_LENT as u64 + 1;
 // The fields of a line.
 const MOST_FIELDS: usize = 40;
 
-// The octets of the node's places.
-pub const PLACES_SIZE: usize = aka::MOST_HELD * aka::VECTOR_SIZE;
-
 // ---- the line
 
 // A call. `word` counts its word among those that are known, from 1; it is 0 where the line is no call of theirs. For each field there is
@@ -117,7 +114,7 @@ fn fits(kind: u8, n: Number) -> bool {
         b'A' => size == aka::AMF_SIZE as u64,
         b'K' => size == aka::KEY_SIZE as u64,
         b'V' => size == aka::VECTOR_SIZE as u64,
-        b'P' => size <= PLACES_SIZE as u64,
+        b'P' => size <= aka::QUEUE_SIZE as u64,
         _ => true,
     }
 }

@@ -28,7 +28,7 @@ pub fn word(word: &[u8]) -> Text {
 
 // Puts a space and a number.
 pub fn put_number(t: Text, n: u64) -> Text {
-    let mut digits = [0u8; 20];
+    let mut digits = [0u8; fields::MOST_DIGITS];
     let k = io::decimal(n, &mut digits);
     put(put(t, b" "), &digits[..k])
 }

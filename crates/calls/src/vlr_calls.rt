@@ -74,7 +74,7 @@ fn bare(vlr: Vlr, word: u64) -> Reply {
 // `vlr-record STATE HELD OUT PLACES`.
 fn record(c: Call, store: &[u8]) -> Vlr {
     let mut out = [0u8; aka::VECTOR_SIZE];
-    let mut places = [0u8; call::PLACES_SIZE];
+    let mut places = [0u8; aka::QUEUE_SIZE];
     call::copy_front(call::part(c, 2, store), &mut out);
     call::copy_front(call::part(c, 3, store), &mut places);
     Vlr {

@@ -64,13 +64,13 @@ fn up_to_newline(bytes: &[u8]) -> usize
 // The part of the piece from `at` up to `size` is not taken yet, `held` counts the bytes of the line, and `used` those that wait to be
 // written out. `ready` says that the line is whole, `over` that the input has ended, and `failed` that a write failed.
 pub struct Progress {
-    pub at: usize,
-    pub size: usize,
+    at: usize,
+    size: usize,
     pub held: usize,
-    pub used: usize,
+    used: usize,
     pub ready: bool,
-    pub over: bool,
-    pub failed: bool,
+    over: bool,
+    failed: bool,
 }
 
 // Before the first read.
@@ -240,7 +240,7 @@ fn take_part(piece: &[u8], line: &mut [u8], p: Progress) -> Progress
 }
 
 // A turn, up to the answer: writes out, reads and takes what is next. Where the line is whole after it, the line buffer begins with
-// `held` bytes of it: all, or as many as the buffer has.
+// `held` bytes of it: all, or as many as the buffer has. What stands behind them, and in the piece outside what is not taken yet, is free.
 pub fn advance(piece: &mut [u8], line: &mut [u8], out: &[u8], p: Progress) -> Progress
     ensures { λ r. ⌜
         standingOf (now (piece .exit)) (now (line .exit)) (now (out .entry)) r

@@ -19,7 +19,8 @@ use Rattle.aka.specs.Functions.{Functions, Keys}
 use Rattle.functions.specs.Sets.{sets}
 use Rattle.function_vectors.specs.declared.Outputs.{Outputs}
 use Rattle.function_vectors.specs.Outputs.{Answers}
-use Rattle.function_vectors.specs.Answer.{answerText, challengeFormed, keysFormed, keysOn, lineSize}
+use Rattle.aka.specs.Layout.{keySize, randSize, sqnSize, amfSize}
+use Rattle.function_vectors.specs.Answer.{amfAt, answerText, challengeFormed, kAt, keysFormed, keysOn, lineSize, opcAt, randAt, sqnAt}
 use Rattle.function_vectors.specs.Answer.{outputsOf, outputsText, wellFormed}
 
 -- octets in hex and a byte behind them, put into a text
@@ -52,26 +53,26 @@ unfolding readFieldInto
 field old line at l e = rw (l, e)
 
 -- the fields of a line whose keys and challenge are well formed
-pub keys-are : (line : List ℕ) → keysFormed line ≡ true → (isHexField 16 1 line ≡ true) × (isHexField 16 34 line ≡ true)
+pub keys-are : (line : List ℕ) → keysFormed line ≡ true → (isHexField keySize kAt line ≡ true) × (isHexField keySize opcAt line ≡ true)
 unfolding keysFormed
 keys-are line e =
     let digit = leb 48 (getD line 0 0) && leb (getD line 0 0) 57 in
-    let fields = and-eq-true-iff digit (isHexField 16 1 line && isHexField 16 34 line) .0 e .1 in
-    and-eq-true-iff (isHexField 16 1 line) (isHexField 16 34 line) .0 fields
+    let fields = and-eq-true-iff digit (isHexField keySize kAt line && isHexField keySize opcAt line) .0 e .1 in
+    and-eq-true-iff (isHexField keySize kAt line) (isHexField keySize opcAt line) .0 fields
 
-pub keys-on : (line : List ℕ) (keys : Keys) → keys .set ≡ getD line 0 0 - 48 → keys .k ≡ octetsIn 16 1 line
-    → keys .opc ≡ octetsIn 16 34 line → keys ≡ keysOn line
+pub keys-on : (line : List ℕ) (keys : Keys) → keys .set ≡ getD line 0 0 - 48 → keys .k ≡ octetsIn keySize kAt line
+    → keys .opc ≡ octetsIn keySize opcAt line → keys ≡ keysOn line
 unfolding keysOn
 keys-on line keys s k opc =
     ap (λ (x : ℕ). record { set = x; k = keys .k; opc = keys .opc }) s
     ∙ ap₂ (λ (x y : Octets). record { set = getD line 0 0 - 48; k = x; opc = y }) k opc
 
 pub challenge-is : (line : List ℕ) → challengeFormed line ≡ true
-    → (isHexField 16 67 line ≡ true) × (isHexField 6 100 line ≡ true) × (isHexField 2 113 line ≡ true)
+    → (isHexField randSize randAt line ≡ true) × (isHexField sqnSize sqnAt line ≡ true) × (isHexField amfSize amfAt line ≡ true)
 unfolding challengeFormed
 challenge-is line e =
-    let first = and-eq-true-iff (isHexField 16 67 line) (isHexField 6 100 line && isHexField 2 113 line) .0 e in
-    let rest = and-eq-true-iff (isHexField 6 100 line) (isHexField 2 113 line) .0 (first .1) in
+    let first = and-eq-true-iff (isHexField randSize randAt line) (isHexField sqnSize sqnAt line && isHexField amfSize amfAt line) .0 e in
+    let rest = and-eq-true-iff (isHexField sqnSize sqnAt line) (isHexField amfSize amfAt line) .0 (first .1) in
     (first .0, rest .0, rest .1)
 
 -- the text of outputs that are those of a subscriber's functions
@@ -103,7 +104,8 @@ module _ (line : List ℕ) (size : length line ≡ lineSize) where
   not-known e unknown is = rw (formed true e, unknown) is
 
   pub outputs : {text : List ℕ} → keysFormed line && challengeFormed line ≡ true → sets .known (keysOn line .set) ≡ true
-      → text ≡ outputsOf (sets .under (keysOn line)) (octetsIn 16 67 line) (octetsIn 6 100 line) (octetsIn 2 113 line)
+      → text ≡ outputsOf (sets .under (keysOn line))
+      (octetsIn randSize randAt line) (octetsIn sqnSize sqnAt line) (octetsIn amfSize amfAt line)
       → text ≡ answerText line
   unfolding answerText
   outputs e known is = rw (formed true e, known) is

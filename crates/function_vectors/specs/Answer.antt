@@ -1,5 +1,5 @@
 -- A line `SET K OPC RAND SQN AMF` and its answer, and what the program writes out for its input. Assumes nothing: these are definitions.
-use Prim.Native.Nat.{ℕ, _-_, _<_}
+use Prim.Native.Nat.{ℕ, _+_, _-_, _<_}
 use mathlib.Core.Bool.{Bool, _&&_, cond}
 use mathlib.Core.List.{List, _++_}
 use lib.Dec.{eqb, leb}
@@ -7,37 +7,54 @@ use lib.ListN.{getD, length}
 use Rattle.octets.specs.Ascii.{ascii}
 use Rattle.octets.specs.Octets.{Octets}
 use Rattle.hex.specs.Hex.{hex}
-use Rattle.fields.specs.Fields.{isHexField, octetsIn}
+use Rattle.fields.specs.Fields.{hexFieldSize, isHexField, octetsIn}
+use Rattle.aka.specs.Layout.{keySize, randSize, resSize, ckSize, ikSize, sqnSize, amfSize, macSize}
 use Rattle.aka.specs.Functions.{Functions, Keys}
 use Rattle.functions.specs.Sets.{sets}
 use Rattle.console.specs.Turns.{Answer, AnswersAll}
 
--- ---- the line: one digit, then K, OPC and RAND of 16 octets, SQN of 6 and AMF of 2 in hex, each after a space
+-- ---- the line: one digit, then K, OPC, RAND, SQN and AMF in hex, each after a space
+
+-- where these fields begin, and the size of a line: 118 bytes
+abbrev pub kAt : ℕ
+kAt = 1
+
+abbrev pub opcAt : ℕ
+opcAt = kAt + hexFieldSize keySize
+
+abbrev pub randAt : ℕ
+randAt = opcAt + hexFieldSize keySize
+
+abbrev pub sqnAt : ℕ
+sqnAt = randAt + hexFieldSize randSize
+
+abbrev pub amfAt : ℕ
+amfAt = sqnAt + hexFieldSize sqnSize
 
 abbrev pub lineSize : ℕ
-lineSize = 118
+lineSize = amfAt + hexFieldSize amfSize
 
 unfoldable pub keysFormed : List ℕ → Bool
-keysFormed line = leb 48 (getD line 0 0) && leb (getD line 0 0) 57 && (isHexField 16 1 line && isHexField 16 34 line)
+keysFormed line = leb 48 (getD line 0 0) && leb (getD line 0 0) 57 && (isHexField keySize kAt line && isHexField keySize opcAt line)
 
 unfoldable pub challengeFormed : List ℕ → Bool
-challengeFormed line = isHexField 16 67 line && (isHexField 6 100 line && isHexField 2 113 line)
+challengeFormed line = isHexField randSize randAt line && (isHexField sqnSize sqnAt line && isHexField amfSize amfAt line)
 
 unfoldable pub wellFormed : List ℕ → Bool
 wellFormed line = eqb (length line) lineSize && (keysFormed line && challengeFormed line)
 
 unfoldable pub keysOn : List ℕ → Keys
-keysOn line = record { set = getD line 0 0 - 48; k = octetsIn 16 1 line; opc = octetsIn 16 34 line }
+keysOn line = record { set = getD line 0 0 - 48; k = octetsIn keySize kAt line; opc = octetsIn keySize opcAt line }
 
 -- ---- the answer: MAC, MAC-S, RES, CK, IK, AK and AK* in hex, with a space between
 
--- room for every answer
-abbrev pub room : ℕ
-room = 143
-
--- the bytes of the first three outputs
+-- the bytes of the first three outputs: 51
 abbrev pub macsSize : ℕ
-macsSize = 51
+macsSize = hexFieldSize macSize + hexFieldSize macSize + hexFieldSize resSize
+
+-- room for every answer: 143
+abbrev pub room : ℕ
+room = macsSize + hexFieldSize ckSize + hexFieldSize ikSize + hexFieldSize sqnSize + hexFieldSize sqnSize
 
 unfoldable pub outputsText : (mac macs res ck ik ak aks : Octets) → List ℕ
 outputsText mac macs res ck ik ak aks =
@@ -58,7 +75,7 @@ unfoldable pub answerText : List ℕ → List ℕ
 answerText line =
     cond (wellFormed line)
     (cond (sets .known (keysOn line .set))
-    (outputsOf (sets .under (keysOn line)) (octetsIn 16 67 line) (octetsIn 6 100 line) (octetsIn 2 113 line))
+    (outputsOf (sets .under (keysOn line)) (octetsIn randSize randAt line) (octetsIn sqnSize sqnAt line) (octetsIn amfSize amfAt line))
     (ascii "refused 1\n"))
     (ascii "bad line\n")
 

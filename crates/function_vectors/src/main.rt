@@ -12,36 +12,55 @@ ghost use Rattle.octets.specs.Octets.{zeros};
 ghost use Rattle.aes_tables.specs.RoundTable.{IsRoundTable};
 ghost use Rattle.hex.specs.Hex.{hex};
 ghost use Rattle.fields.specs.Fields.{readFieldInto};
+ghost use Rattle.aka.specs.Layout.{keySize, randSize, sqnSize, amfSize};
 ghost use Rattle.functions.specs.Sets.{sets};
 ghost use Rattle.functions.specs.Challenge.{keysOf};
 ghost use Rattle.console.specs.Turns.{AnsweredIf, Gives, Ran, standingOf};
 ghost use Rattle.function_vectors.specs.Outputs.{Answers};
-ghost use Rattle.function_vectors.specs.Answer.{answerText, challengeFormed, keysFormed, lineAnswer};
-ghost use Rattle.function_vectors.specs.Answer.{lineSize, macsSize, outputsText, room};
+ghost use Rattle.function_vectors.specs.Answer.{amfAt, kAt, lineSize, macsSize, opcAt, randAt, room, sqnAt};
+ghost use Rattle.function_vectors.specs.Answer.{answerText, challengeFormed, keysFormed, lineAnswer, outputsText};
 
-// The bytes of a line that is well formed.
-const LINE_SIZE: usize = 118;
+// Where the fields of a line begin, each with the space before it, and the bytes of a line that is well formed.
+const K_AT: usize = 1;
+
+const OPC_AT: usize = K_AT + 1 + 2 * aka::KEY_SIZE;
+
+const RAND_AT: usize = OPC_AT + 1 + 2 * aka::KEY_SIZE;
+
+const SQN_AT: usize = RAND_AT + 1 + 2 * aka::RAND_SIZE;
+
+const AMF_AT: usize = SQN_AT + 1 + 2 * aka::SQN_SIZE;
+
+const LINE_SIZE: usize = AMF_AT + 1 + 2 * aka::AMF_SIZE;
+
+// The bytes of MAC, MAC-S and RES in an answer, each with the space behind it.
+const MACS_SIZE: usize = 3 + 2 * (aka::MAC_SIZE + aka::MAC_SIZE + aka::RES_SIZE);
 
 // Room for every answer.
-const ROOM: usize = 143;
-
-// The bytes of MAC, MAC-S and RES in an answer.
-const MACS_SIZE: usize = 51;
+const ROOM: usize = MACS_SIZE
+    + 4
+    + 2 * (aka::CK_SIZE + aka::IK_SIZE + aka::SQN_SIZE + aka::SQN_SIZE);
 
 // ---- the outputs
 
 pub struct Outputs {
-    pub mac: [u8; 8],
-    pub macs: [u8; 8],
-    pub res: [u8; 8],
-    pub ck: [u8; 16],
-    pub ik: [u8; 16],
-    pub ak: [u8; 6],
-    pub aks: [u8; 6],
+    pub mac: [u8; aka::MAC_SIZE],
+    pub macs: [u8; aka::MAC_SIZE],
+    pub res: [u8; aka::RES_SIZE],
+    pub ck: [u8; aka::CK_SIZE],
+    pub ik: [u8; aka::IK_SIZE],
+    pub ak: [u8; aka::SQN_SIZE],
+    pub aks: [u8; aka::SQN_SIZE],
 }
 
 // The seven outputs under one subscriber's keys, with one key schedule and one T.
-fn seven(table: &[u32; 256], keys: Keys, rand: [u8; 16], sqn: [u8; 6], amf: [u8; 2]) -> Outputs
+fn seven(
+    table: &[u32; 256],
+    keys: Keys,
+    rand: [u8; aka::RAND_SIZE],
+    sqn: [u8; aka::SQN_SIZE],
+    amf: [u8; aka::AMF_SIZE],
+) -> Outputs
     requires { ⌜ IsRoundTable (now table) ⌝ }
     ensures { λ r. ⌜ Answers (sets .under (keysOf keys)) rand sqn amf r ⌝ }
 {
@@ -79,7 +98,12 @@ fn put_hex(text: &mut [u8], used: usize, octets: &[u8], end: u8) -> usize
 }
 
 // Writes MAC, MAC-S and RES to the front of the text.
-fn put_macs(text: &mut [u8], mac: [u8; 8], macs: [u8; 8], res: [u8; 8])
+fn put_macs(
+    text: &mut [u8],
+    mac: [u8; aka::MAC_SIZE],
+    macs: [u8; aka::MAC_SIZE],
+    res: [u8; aka::RES_SIZE],
+)
     requires { ⌜ macsSize ≤ length (now text) ⌝ }
     ensures { λ _. ⌜ take macsSize (now (text .exit)) ≡ (hex mac ++ ascii " ") ++ (hex macs ++ ascii " ") ++ (hex res ++ ascii " ") ⌝ }
 {
@@ -89,7 +113,13 @@ fn put_macs(text: &mut [u8], mac: [u8; 8], macs: [u8; 8], res: [u8; 8])
 }
 
 // Writes CK, IK, AK and AK* behind them.
-fn put_keys(text: &mut [u8], ck: [u8; 16], ik: [u8; 16], ak: [u8; 6], aks: [u8; 6]) -> usize
+fn put_keys(
+    text: &mut [u8],
+    ck: [u8; aka::CK_SIZE],
+    ik: [u8; aka::IK_SIZE],
+    ak: [u8; aka::SQN_SIZE],
+    aks: [u8; aka::SQN_SIZE],
+) -> usize
     requires { ⌜ room ≤ length (now text) ⌝ }
     ensures { λ r. ⌜
         take r (now (text .exit)) ≡ take macsSize (now (text .entry)) ++ (hex ck ++ ascii " ") ++ (hex ik ++ ascii " ")
@@ -131,12 +161,13 @@ fn read_keys(line: &[u8]) -> ReadKeys
     ensures formed { λ r. ⌜ r .formed ≡ keysFormed (now (line .entry)) ⌝ }
     ensures set { λ r. ⌜ (keysFormed (now (line .entry)) ≡ true → r .keys .set ≡ getD (now (line .entry)) 0 0 - 48) ⌝ }
     ensures octets { λ r. ⌜
-        (r .keys .k ≡ readFieldInto (zeros 16) 1 (now (line .entry))) × (r .keys .opc ≡ readFieldInto (zeros 16) 34 (now (line .entry)))
+        (r .keys .k ≡ readFieldInto (zeros keySize) kAt (now (line .entry)))
+        × (r .keys .opc ≡ readFieldInto (zeros keySize) opcAt (now (line .entry)))
         ⌝ }
 {
-    let mut k = [0u8; 16];
-    let mut opc = [0u8; 16];
-    let fields = fields::hex_field(line, 1, &mut k) & fields::hex_field(line, 34, &mut opc);
+    let mut k = [0u8; aka::KEY_SIZE];
+    let mut opc = [0u8; aka::KEY_SIZE];
+    let fields = fields::hex_field(line, K_AT, &mut k) & fields::hex_field(line, OPC_AT, &mut opc);
     let c = line[0];
     if c < b'0' {
         return ReadKeys {
@@ -157,23 +188,24 @@ fn read_keys(line: &[u8]) -> ReadKeys
 // The challenge on a line, and whether it is well formed.
 pub struct ReadChallenge {
     pub formed: bool,
-    pub rand: [u8; 16],
-    pub sqn: [u8; 6],
-    pub amf: [u8; 2],
+    pub rand: [u8; aka::RAND_SIZE],
+    pub sqn: [u8; aka::SQN_SIZE],
+    pub amf: [u8; aka::AMF_SIZE],
 }
 
 fn read_challenge(line: &[u8]) -> ReadChallenge
     ensures formed { λ r. ⌜ r .formed ≡ challengeFormed (now (line .entry)) ⌝ }
     ensures octets { λ r. ⌜
-        (r .rand ≡ readFieldInto (zeros 16) 67 (now (line .entry))) × (r .sqn ≡ readFieldInto (zeros 6) 100 (now (line .entry)))
-        × (r .amf ≡ readFieldInto (zeros 2) 113 (now (line .entry)))
+        (r .rand ≡ readFieldInto (zeros randSize) randAt (now (line .entry)))
+        × (r .sqn ≡ readFieldInto (zeros sqnSize) sqnAt (now (line .entry)))
+        × (r .amf ≡ readFieldInto (zeros amfSize) amfAt (now (line .entry)))
         ⌝ }
 {
-    let mut rand = [0u8; 16];
-    let mut sqn = [0u8; 6];
-    let mut amf = [0u8; 2];
-    let formed = fields::hex_field(line, 67, &mut rand)
-        & (fields::hex_field(line, 100, &mut sqn) & fields::hex_field(line, 113, &mut amf));
+    let mut rand = [0u8; aka::RAND_SIZE];
+    let mut sqn = [0u8; aka::SQN_SIZE];
+    let mut amf = [0u8; aka::AMF_SIZE];
+    let formed = fields::hex_field(line, RAND_AT, &mut rand)
+        & (fields::hex_field(line, SQN_AT, &mut sqn) & fields::hex_field(line, AMF_AT, &mut amf));
     ReadChallenge {
         formed,
         rand,

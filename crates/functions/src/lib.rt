@@ -11,8 +11,8 @@ ghost use Rattle.functions.specs.Challenge.{keysOf, scheduleOf, IsSchedu
 // What USIM and AuC hold of a subscriber: the function set, K and OPc.
 pub struct Keys {
     pub set: u8,
-    pub k: [u8; 16],
-    pub opc: [u8; 16],
+    pub k: [u8; aka::KEY_SIZE],
+    pub opc: [u8; aka::KEY_SIZE],
 }
 
 // A RAND taken up: `base` is X of set 0, T of MILENAGE.
@@ -24,8 +24,8 @@ pub struct Challenge {
 
 // RES and AK.
 pub struct ResAk {
-    pub res: [u8; 8],
-    pub ak: [u8; 6],
+    pub res: [u8; aka::RES_SIZE],
+    pub ak: [u8; aka::SQN_SIZE],
 }
 
 // Whether the function set is known.
@@ -48,7 +48,12 @@ pub fn schedule(keys: Keys) -> [u32; 44]
 }
 
 // A RAND taken up under the keys, with their schedule.
-pub fn prepare(table: &[u32; 256], schedule: &[u32; 44], keys: Keys, rand: [u8; 16]) -> Challenge
+pub fn prepare(
+    table: &[u32; 256],
+    schedule: &[u32; 44],
+    keys: Keys,
+    rand: [u8; aka::RAND_SIZE],
+) -> Challenge
     requires { ⌜ IsRoundTable (now table) × IsSchedule (keysOf keys) (now schedule) ⌝ }
     ensures { λ r. ⌜ Prepared (keysOf keys) rand (now (schedule .entry)) r ⌝ }
 {
@@ -73,9 +78,9 @@ pub fn f1(
     table: &[u32; 256],
     schedule: &[u32; 44],
     c: Challenge,
-    sqn: [u8; 6],
-    amf: [u8; 2],
-) -> [u8; 8]
+    sqn: [u8; aka::SQN_SIZE],
+    amf: [u8; aka::AMF_SIZE],
+) -> [u8; aka::MAC_SIZE]
     requires { ⌜ IsRoundTable (now table) ⌝ }
     ensures { λ r. ⌜ r ≡ outputsFrom (now (schedule .entry)) c .f1 sqn amf ⌝ }
 {
@@ -94,9 +99,9 @@ pub fn f1s(
     table: &[u32; 256],
     schedule: &[u32; 44],
     c: Challenge,
-    sqn: [u8; 6],
-    amf: [u8; 2],
-) -> [u8; 8]
+    sqn: [u8; aka::SQN_SIZE],
+    amf: [u8; aka::AMF_SIZE],
+) -> [u8; aka::MAC_SIZE]
     requires { ⌜ IsRoundTable (now table) ⌝ }
     ensures { λ r. ⌜ r ≡ outputsFrom (now (schedule .entry)) c .f1* sqn amf ⌝ }
 {
@@ -135,7 +140,7 @@ pub fn f2_f5(table: &[u32; 256], schedule: &[u32; 44], c: Challenge) -> ResAk
 }
 
 // CK: f3 of RAND.
-pub fn f3(table: &[u32; 256], schedule: &[u32; 44], c: Challenge) -> [u8; 16]
+pub fn f3(table: &[u32; 256], schedule: &[u32; 44], c: Challenge) -> [u8; aka::CK_SIZE]
     requires { ⌜ IsRoundTable (now table) ⌝ }
     ensures { λ r. ⌜ r ≡ outputsFrom (now (schedule .entry)) c .f3 ⌝ }
 {
@@ -149,7 +154,7 @@ pub fn f3(table: &[u32; 256], schedule: &[u32; 44], c: Challenge) -> [u8; 16]
 }
 
 // IK: f4 of RAND.
-pub fn f4(table: &[u32; 256], schedule: &[u32; 44], c: Challenge) -> [u8; 16]
+pub fn f4(table: &[u32; 256], schedule: &[u32; 44], c: Challenge) -> [u8; aka::IK_SIZE]
     requires { ⌜ IsRoundTable (now table) ⌝ }
     ensures { λ r. ⌜ r ≡ outputsFrom (now (schedule .entry)) c .f4 ⌝ }
 {
@@ -163,7 +168,7 @@ pub fn f4(table: &[u32; 256], schedule: &[u32; 44], c: Challenge) -> [u8; 16]
 }
 
 // AK*: f5* of RAND.
-pub fn f5s(table: &[u32; 256], schedule: &[u32; 44], c: Challenge) -> [u8; 6]
+pub fn f5s(table: &[u32; 256], schedule: &[u32; 44], c: Challenge) -> [u8; aka::SQN_SIZE]
     requires { ⌜ IsRoundTable (now table) ⌝ }
     ensures { λ r. ⌜ r ≡ outputsFrom (now (schedule .entry)) c .f5* ⌝ }
 {

@@ -153,14 +153,7 @@ pub fn sqn_ms_in(auts: [u8; aka::AUTS_SIZE], akstar: [u8; aka::SQN_SIZE]) -> [u8
 pub fn mac_s_in(auts: [u8; aka::AUTS_SIZE]) -> [u8; aka::MAC_SIZE]
     ensures { λ r. ⌜ r ≡ readAuts auts .mac ⌝ }
 {
-    [
-        auts[6],
-        auts[7],
-        auts[8],
-        auts[9],
-        auts[10],
-        auts[11],
-        auts[12],
-        auts[13],
-    ]
+    let mut mac = [0u8; aka::MAC_SIZE];
+    bytes::copy(&auts[aka::MAC_S_AT..], &mut mac);
+    mac
 }

@@ -11,9 +11,9 @@ use Rattle.aka.proofs.Replies.{clear}
 use Rattle.aka.proofs.VlrLaws.{equals, counts, fits, room, some-held}
 
 -- the number, from the tests as the code made them
-pub refusal-is : (vlr : Vlr) (count part : Bool) {state state′ : Bool} {rest rest′ r : ℕ}
-    → r ≡ refusalOr vlr count part state rest → state ≡ state′ → rest ≡ rest′ → r ≡ refusalOr vlr count part state′ rest′
-refusal-is vlr count part e f g = e ∙ ap₂ (λ (b : Bool) (n : ℕ). refusalOr vlr count part b n) f g
+pub refusal-is : (vlr : Vlr) (counted sized : Bool) {named named′ : Bool} {rest rest′ r : ℕ}
+    → r ≡ refusalOr vlr counted sized named rest → named ≡ named′ → rest ≡ rest′ → r ≡ refusalOr vlr counted sized named′ rest′
+refusal-is vlr counted sized e f g = e ∙ ap₂ (λ (b : Bool) (n : ℕ). refusalOr vlr counted sized b n) f g
 
 module _ (vlr : Vlr) (count : ℕ) (batch : Octets) where
   -- the batch has its length, and there is room for it

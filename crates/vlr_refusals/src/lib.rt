@@ -30,20 +30,21 @@ fn batch_fits(count: u64, batch: &[u8]) -> bool
     (size / aka::PLACE_SIZE) as u64 == count
 }
 
-// The lowest of 1, 2, 3 and 7 that applies, else `rest`: whether the count is as named, the length of the lent part, and the state.
-fn refusal_or(vlr: Vlr, count: bool, part: bool, state: bool, rest: u8) -> u8
-    ensures { λ r. ⌜ r ≡ spec.refusalOr (vlrOf vlr) count part state rest ⌝ }
+// The lowest of 1, 2, 3 and 7 that applies, else `rest`. `counted`, `sized`: the count and the lent part are as named; `named`: the
+// operation is named for the state.
+fn refusal_or(vlr: Vlr, counted: bool, sized: bool, named: bool, rest: u8) -> u8
+    ensures { λ r. ⌜ r ≡ spec.refusalOr (vlrOf vlr) counted sized named rest ⌝ }
 {
     if !is_valid(vlr) {
         return 1;
     }
-    if !count {
+    if !counted {
         return 2;
     }
-    if !part {
+    if !sized {
         return 3;
     }
-    if !state {
+    if !named {
         return 7;
     }
     rest
@@ -88,12 +89,12 @@ pub fn ask_refusal(vlr: Vlr) -> u8
     refusal_or(vlr, true, true, named, 0)
 }
 
-// Of the operations in Asked; `part`: the lent part, if any, has the length named.
-pub fn asked_refusal(vlr: Vlr, part: bool) -> u8
-    ensures { λ r. ⌜ r ≡ spec.askedRefusal (vlrOf vlr) part ⌝ }
+// Of the operations in Asked; `sized`: the lent part, if any, has the length named.
+pub fn asked_refusal(vlr: Vlr, sized: bool) -> u8
+    ensures { λ r. ⌜ r ≡ spec.askedRefusal (vlrOf vlr) sized ⌝ }
 {
     let state = vlr.state;
-    refusal_or(vlr, true, part, is_asked(state), 0)
+    refusal_or(vlr, true, sized, is_asked(state), 0)
 }
 
 // Of Renew.

@@ -7,7 +7,7 @@ use native.Mathlib.Omega.{arith}
 use lib.ListN.{length}
 use Rattle.aka.specs.Layout.{vectorSize, vectorOffset, partFrom}
 use Rattle.aka.proofs.Offsets.{Inside, offset-inside}
-use Rattle.batches.specs.Views.{offsetIn}
+use Rattle.batches.specs.Views.{offsetIn, startIn}
 use borrow.Author.Needs.{needs}
 use Rattle.batches.proofs.vector_at.Statement.{statement}
 use Rattle.batches.proofs.vector_at.Tie as tie
@@ -35,7 +35,8 @@ returns : tie.Need-returns
 returns c =
     let past = c .before .before .before in
     let nowhere = sym (ap offsetIn (c .before .enum-told .given .1)) ∙ past .offset-of .ensures in
-    ap (λ (o : Option ℕ). partFrom o (entry past .args .batch .now)) nowhere
+    let batch = entry past .args .batch in
+    (ap (λ (o : Option ℕ). partFrom o (batch .now)) nowhere, ap (λ (o : Option ℕ). startIn o (batch .ptr)) nowhere)
 
 add-result : tie.Need-add-result
 add-result c = omega (arith, inside c .fits)
@@ -44,7 +45,11 @@ part-result-end : tie.Need-part-result-end-2
 part-result-end c = omega (arith, inside c .fits)
 
 returns-2 : tie.Need-returns-2
-returns-2 c = rw (found (c .before), add-sub-cancel-left (offset (c .before)) vectorSize) refl
+returns-2 c =
+    let known = found (c .before) in (
+      rw (known, add-sub-cancel-left (offset (c .before)) vectorSize) refl,
+      ap (λ (o : Option ℕ). startIn o (entry (called (c .before)) .args .batch .ptr)) (sym known),
+    )
 
 pub vector-at-spec : {M : Type 1} → statement M
 vector-at-spec =

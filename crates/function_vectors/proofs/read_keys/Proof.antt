@@ -8,7 +8,8 @@ use borrow.Author.Tests.{le-leb, lt-leb}
 use lib.Dec.{leb}
 use lib.ListN.{getD}
 use Rattle.fields.specs.Fields.{isHexField}
-use Rattle.function_vectors.specs.Answer.{keysFormed}
+use Rattle.aka.specs.Layout.{keySize}
+use Rattle.function_vectors.specs.Answer.{kAt, keysFormed, opcAt}
 use Rattle.function_vectors.proofs.read_keys.Statement.{statement}
 use Rattle.function_vectors.proofs.read_keys.Tie as tie
 
@@ -27,7 +28,7 @@ below : (l : List ℕ) → getD l 0 0 < 48 → keysFormed l ≡ false
 unfolding keysFormed
 below l h = simp (lt-leb 48 _ h)
 
-above : (l : List ℕ) {a b : Bool} → 48 ≤ getD l 0 0 → a ≡ isHexField 16 1 l → b ≡ isHexField 16 34 l
+above : (l : List ℕ) {a b : Bool} → 48 ≤ getD l 0 0 → a ≡ isHexField keySize kAt l → b ≡ isHexField keySize opcAt l
     → leb (getD l 0 0) 57 && (a && b) ≡ keysFormed l
 unfolding keysFormed
 above l h a b = rw (le-leb 48 _ h, a, b)

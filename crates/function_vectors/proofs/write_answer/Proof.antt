@@ -13,7 +13,8 @@ use Rattle.aka.specs.Functions.{Keys}
 use Rattle.functions.specs.Sets.{sets}
 use Rattle.functions.specs.Challenge.{keysOf}
 use Rattle.console.proofs.BufferLaws.{appended-fits}
-use Rattle.function_vectors.specs.Answer.{challengeFormed, keysFormed, keysOn, outputsOf}
+use Rattle.aka.specs.Layout.{keySize, randSize, sqnSize, amfSize}
+use Rattle.function_vectors.specs.Answer.{amfAt, challengeFormed, kAt, keysFormed, keysOn, opcAt, outputsOf, randAt, sqnAt}
 use Rattle.function_vectors.proofs.Texts.{challenge-is, field, keys-are, keys-on, not-formed, not-known, other-length, outputs}
 use Rattle.function_vectors.proofs.Texts.{text-of}
 use Rattle.function_vectors.proofs.write_answer.Statement.{statement}
@@ -47,8 +48,8 @@ module _ (c : tie.After-read-challenge) (good : keysFormed (line c) && challenge
       let is = keyed c .read-keys .ensures in
       let there = keys-are (line c) (both .0) in
       keys-on (line c) (keysOf (keyed c .read-keys .result .keys)) (is .1 .0 (both .0))
-      (is .1 .1 .0 ∙ field (zeros 16) (line c) 1 refl (there .0))
-      (is .1 .1 .1 ∙ field (zeros 16) (line c) 34 refl (there .1))
+      (is .1 .1 .0 ∙ field (zeros keySize) (line c) kAt refl (there .0))
+      (is .1 .1 .1 ∙ field (zeros keySize) (line c) opcAt refl (there .1))
 
 returns : tie.Need-returns
 returns c =
@@ -96,9 +97,9 @@ returns-4 c =
     (put .put-outputs .ensures
     ∙ text-of F (challenge .rand) (challenge .sqn) (challenge .amf) (made .seven .result) (made .seven .ensures)
     ∙ ap₂ (λ (k : Keys) (x : Octets). outputsOf (sets .under k) x (challenge .sqn) (challenge .amf)) (keys read good)
-    (is .0 ∙ field (zeros 16) (line read) 67 refl (there .0))
-    ∙ ap₂ (λ (x y : Octets). outputsOf (sets .under (keysOn (line read))) (octetsIn 16 67 (line read)) x y)
-    (is .1 ∙ field (zeros 6) (line read) 100 refl (there .1)) (is .2 ∙ field (zeros 2) (line read) 113 refl (there .2)))
+    (is .0 ∙ field (zeros randSize) (line read) randAt refl (there .0))
+    ∙ ap₂ (λ (x y : Octets). outputsOf (sets .under (keysOn (line read))) (octetsIn randSize randAt (line read)) x y)
+    (is .1 ∙ field (zeros sqnSize) (line read) sqnAt refl (there .1)) (is .2 ∙ field (zeros amfSize) (line read) amfAt refl (there .2)))
 
 pub write-answer-spec : {M : Type 1} → statement M
 write-answer-spec =

@@ -15,11 +15,11 @@ start c = c .before
 valid : (c : tie.Else1) → validVlr (vlrOf (start (c .before) .args .vlr)) ≡ true
 valid c = sym (c .before .is-valid .ensures) ∙ not-false _ (c .if1 .left)
 
-count : (c : tie.Else2) → start (c .before .before) .args .count ≡ true
-count c = not-false _ (c .if2 .left)
+counted : (c : tie.Else2) → start (c .before .before) .args .counted ≡ true
+counted c = not-false _ (c .if2 .left)
 
-part : (c : tie.Else3) → start (c .before .before .before) .args .part ≡ true
-part c = not-false _ (c .if3 .left)
+sized : (c : tie.Else3) → start (c .before .before .before) .args .sized ≡ true
+sized c = not-false _ (c .if3 .left)
 
 returns : tie.Need-returns
 unfolding refusalOr
@@ -31,14 +31,14 @@ returns-2 : tie.Need-returns-2
 unfolding refusalOr
 returns-2 c =
     let one = c .before in
-    sym (rw (valid one, not-true (start (one .before) .args .count) (c .if2 .taken)))
+    sym (rw (valid one, not-true (start (one .before) .args .counted) (c .if2 .taken)))
 
 returns-3 : tie.Need-returns-3
 unfolding refusalOr
 returns-3 c =
     let two = c .before in
     let one = two .before in
-    sym (rw (valid one, count two, not-true (start (one .before) .args .part) (c .if3 .taken)))
+    sym (rw (valid one, counted two, not-true (start (one .before) .args .sized) (c .if3 .taken)))
 
 returns-4 : tie.Need-returns-4
 unfolding refusalOr
@@ -46,7 +46,7 @@ returns-4 c =
     let three = c .before in
     let two = three .before in
     let one = two .before in
-    sym (rw (valid one, count two, part three, not-true (start (one .before) .args .state) (c .if4 .taken)))
+    sym (rw (valid one, counted two, sized three, not-true (start (one .before) .args .named) (c .if4 .taken)))
 
 returns-5 : tie.Need-returns-5
 unfolding refusalOr
@@ -54,7 +54,7 @@ returns-5 c =
     let three = c .before in
     let two = three .before in
     let one = two .before in
-    sym (rw (valid one, count two, part three, not-false (start (one .before) .args .state) (c .if4 .left)) refl)
+    sym (rw (valid one, counted two, sized three, not-false (start (one .before) .args .named) (c .if4 .left)) refl)
 
 pub refusal-or-spec : {M : Type 1} → statement M
 refusal-or-spec = tie.close (tie.spec (λ c κs. search needs) returns returns-2 returns-3 returns-4 returns-5)
