@@ -20,7 +20,7 @@ use Rattle.aka.specs.Vlr.{Vlr, VlrAnswer, State, refusalOf, mostHeld, pl
 use Rattle.aka.specs.Vlr as node
 use Rattle.aka.specs.Calls.{Call, reply, store, renew, ask, again, answer, sync, reject, timeout, abandon}
 use Rattle.aka.specs.Demand3.{Each}
-use Rattle.aka.specs.VlrLaws.{placeAt, Shaped, termsOf, Due, given, nothing, requestOf, Left, Stored, Renewed, Asks, Does, VlrLaws}
+use Rattle.aka.specs.VlrLaws.{placeAt, VlrShaped, termsOf, Due, given, nothing, requestOf, Left, Stored, Renewed, Asks, Does, VlrLaws}
 use Rattle.aka.specs.OrderOfUse.{Phase, idle, asked, resyncing, History, nothingYet, isIn, isUnused, unusedFrom, unused, oldest}
 use Rattle.aka.specs.OrderOfUse.{unanswered, enters, requests, adds, Handled, isTaken, after, stateOf, vectorsAt, outOf}
 use Rattle.aka.specs.OrderOfUse.{recordOf, OfVector, Gives, Rising, Meets, InOrder, answers, OrderOfUse}
@@ -118,7 +118,7 @@ pub record Agrees (h : History) (vlr : Vlr) : Type 0 where
   pub meets : low + vlr .held ≡ h .total
   pub size : length (h .stored) ≡ placeSize * h .total
   pub valid : validVlr vlr ≡ true
-  pub shaped : Shaped vlr
+  pub shaped : VlrShaped vlr
   pub places : (k : ℕ) → k < vlr .held → placeAt (vlr .queue) k ≡ placeAt (h .stored) (low + k)
   pub state : vlr .state ≡ stateOf (h .phase)
   pub out : vlr .out ≡ outOf (h .stored) (h .phase)
@@ -212,7 +212,7 @@ used-before true true i q = refl
 used-before true false i q = q
 
 module _ (h : History) (vlr : Vlr) (a : Agrees h vlr) (answered : VlrAnswer) (valid : validVlr (answered .vlr) ≡ true)
-    (shaped : Shaped (answered .vlr)) where
+    (shaped : VlrShaped (answered .vlr)) where
   abbrev next : Vlr
   next = answered .vlr
 

@@ -8,7 +8,7 @@ use native.Mathlib.Omega.{arith}
 use Rattle.aka.specs.Vlr.{Vlr, VlrAnswer, Outcome, done, passed, cause, refused, refusalOf, causeOf, validVlr, refusalOr, noOctets}
 use Rattle.aka.specs.Vlr.{unlessRefused}
 use Rattle.aka.specs.Calls.{Call}
-use Rattle.aka.specs.VlrLaws.{Shaped, Terms, termsOf, Due, Does, VlrLaws}
+use Rattle.aka.specs.VlrLaws.{VlrShaped, Terms, termsOf, Due, Does, VlrLaws}
 use Rattle.aka.proofs.VlrRecords.{Valid, valid-true, true-valid}
 
 -- the tests of a refusal chain say what document 01 names
@@ -21,9 +21,9 @@ pub record Tests (t : Terms) (c p s : Bool) (rest : ℕ) : Type 0 where
 -- an answer without refusal does what document 01 says of the call
 pub record Taken (vlr : Vlr) (call : Call) (a : VlrAnswer) : Type 0 where
   pub number : refusalOf (a .outcome) ≡ 0
-  pub does : Shaped vlr → Valid vlr → Due (termsOf (vlr .state) (vlr .held) call) → Does vlr a call
-  pub valid : Shaped vlr → Valid vlr → Due (termsOf (vlr .state) (vlr .held) call) → Valid (a .vlr)
-  pub shaped : Shaped vlr → Valid vlr → Due (termsOf (vlr .state) (vlr .held) call) → Shaped (a .vlr)
+  pub does : VlrShaped vlr → Valid vlr → Due (termsOf (vlr .state) (vlr .held) call) → Does vlr a call
+  pub valid : VlrShaped vlr → Valid vlr → Due (termsOf (vlr .state) (vlr .held) call) → Valid (a .vlr)
+  pub shaped : VlrShaped vlr → Valid vlr → Due (termsOf (vlr .state) (vlr .held) call) → VlrShaped (a .vlr)
 
 -- a test that says P is false where P is
 refute : (b : Bool) (P : Type 0) → (b ≡ true) ↔ P → (P → ⊥) → b ≡ false
@@ -126,5 +126,5 @@ module _ (vlr : Vlr) (call : Call) {c p s : Bool} {rest : ℕ} {a : VlrAnswer}
         (taken .does shaped (valid-true vlr (passing e .0)) (passing e .1)))
         (λ n e. absurd (not-taken n e none));
     stays-valid = λ shaped v. next (λ x. validVlr x ≡ true) v (λ valid due. true-valid (a .vlr) (taken .valid shaped valid due));
-    stays-shaped = λ shaped. next Shaped shaped (taken .shaped shaped);
+    stays-shaped = λ shaped. next VlrShaped shaped (taken .shaped shaped);
   }

@@ -17,7 +17,7 @@ use Rattle.aka.specs.Vlr.{batchFits, refusalOr, unlessRefused, queued, o
 use Rattle.aka.specs.Vlr.{resyncRequest, storeRefusal, askRefusal, askedRefusal, renewRefusal, timeoutRefusal}
 use Rattle.aka.specs.Vlr as node
 use Rattle.aka.specs.Calls.{Call, reply, store, renew, ask, again, answer, sync, reject, timeout, abandon}
-use Rattle.aka.specs.VlrLaws.{placeAt, Shaped, Any, Answers, VlrLaws, VlrPromise}
+use Rattle.aka.specs.VlrLaws.{placeAt, VlrShaped, Any, Answers, VlrLaws, VlrPromise}
 use Rattle.aka.proofs.VlrRecords.{Valid, true-valid, valid-iff, new-valid, new-shaped, Fits, queued-shaped, queued-valid}
 use Rattle.aka.proofs.VlrRecords.{queued-before, queued-behind, oldest-shaped, oldest-first, oldest-rest, oldest-valid}
 use Rattle.aka.proofs.VlrRecords.{none-shaped, none-valid}
@@ -115,7 +115,7 @@ either-way : (P : VlrAnswer → Type 0) (vlr : Vlr) → P (passIf vlr true) → 
 either-way P vlr right wrong true = right
 either-way P vlr right wrong false = wrong
 
-store-fits : (vlr : Vlr) (count : ℕ) (batch : Octets) → Shaped vlr → length batch ≡ placeSize * count → vlr .held + count ≤ mostHeld
+store-fits : (vlr : Vlr) (count : ℕ) (batch : Octets) → VlrShaped vlr → length batch ≡ placeSize * count → vlr .held + count ≤ mostHeld
     → Fits vlr count batch
 store-fits vlr count batch s size room = record { shaped = s; size = size; room = room }
 
@@ -213,7 +213,7 @@ answer-laws vlr res = chain.laws vlr (answer res)
       number = either-way (λ a. node.refusalOf (a .outcome) ≡ 0) vlr refl refl (resRight vlr res);
       does = λ s v d. answers vlr res (resRight vlr res) refl;
       valid = λ s v d. either-way (λ a. Valid (a .vlr)) vlr (none-valid idle vlr v) (none-valid idle vlr v) (resRight vlr res);
-      shaped = λ s v d. either-way (λ a. Shaped (a .vlr)) vlr (none-shaped idle vlr s) (none-shaped idle vlr s) (resRight vlr res);
+      shaped = λ s v d. either-way (λ a. VlrShaped (a .vlr)) vlr (none-shaped idle vlr s) (none-shaped idle vlr s) (resRight vlr res);
     })
 
 sync-laws : (vlr : Vlr) (auts : Octets) → VlrLaws vlr (sync auts) (node.sync vlr auts)

@@ -13,7 +13,7 @@ use Rattle.octets.specs.Octets.{Octets, zeros, part}
 use Rattle.octets.proofs.Absurd.{zero-not-one}
 use Rattle.aka.specs.Vlr.{Vlr, State, idle, asked, resyncing, isAsked, mostHeld, placeSize, emptyQueue, newVlr, allZero, validVlr}
 use Rattle.aka.specs.Vlr.{queued, oldestOut, noneOut}
-use Rattle.aka.specs.VlrLaws.{placeAt, Shaped, Left}
+use Rattle.aka.specs.VlrLaws.{placeAt, VlrShaped, Left}
 use Rattle.aka.proofs.Held.{all-zeros, length-zeros, zero-append, zero-drop, zero-each, each-zero, zero-from, part-before}
 use Rattle.aka.proofs.Held.{length-written, written-before, written-behind, written-zero}
 
@@ -72,13 +72,13 @@ new-valid = record {
   absent = λ other. all-zeros placeSize;
 }
 
-pub new-shaped : Shaped newVlr
+pub new-shaped : VlrShaped newVlr
 new-shaped = record { queue = length-zeros (placeSize * mostHeld); out = length-zeros placeSize }
 
 -- ---- a batch queued behind the vectors held
 
 pub record Fits (vlr : Vlr) (count : ℕ) (batch : Octets) : Type 0 where
-  pub shaped : Shaped vlr
+  pub shaped : VlrShaped vlr
   pub size : length batch ≡ placeSize * count
   pub room : vlr .held + count ≤ mostHeld
 
@@ -111,13 +111,13 @@ module _ (vlr : Vlr) (count : ℕ) (batch : Octets) (f : Fits vlr count batch) w
         absent = v .absent;
       }
 
-  pub queued-shaped : Shaped (queued vlr count batch)
+  pub queued-shaped : VlrShaped (queued vlr count batch)
   unfolding queued
   queued-shaped = record { queue = length-written start batch (vlr .queue) inside ∙ f .shaped .queue; out = f .shaped .out }
 
 -- ---- the oldest outstanding
 
-module _ (vlr : Vlr) (s : Shaped vlr) where
+module _ (vlr : Vlr) (s : VlrShaped vlr) where
   abbrev left : Octets
   left = drop placeSize (vlr .queue)
 
@@ -152,7 +152,7 @@ module _ (vlr : Vlr) (s : Shaped vlr) where
       ∙ ap (take placeSize) (drop-drop (placeSize * k) placeSize (vlr .queue))
       ∙ ap (λ (n : ℕ). part n placeSize (vlr .queue)) at
 
-  pub oldest-shaped : Shaped (oldestOut vlr)
+  pub oldest-shaped : VlrShaped (oldestOut vlr)
   unfolding oldestOut
   oldest-shaped = record {
     queue = length-append left (zeros placeSize) ∙ rw length-left;
@@ -166,7 +166,7 @@ module _ (to : State) (vlr : Vlr) where
   unfolding noneOut
   none-left = record { state = refl; out = refl; held = refl; queue = refl }
 
-  pub none-shaped : Shaped vlr → Shaped (noneOut to vlr)
+  pub none-shaped : VlrShaped vlr → VlrShaped (noneOut to vlr)
   unfolding noneOut
   none-shaped s = record { queue = s .queue; out = length-zeros placeSize }
 

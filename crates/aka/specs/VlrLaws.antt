@@ -16,7 +16,7 @@ abbrev pub placeAt : (queue : Octets) (k : ℕ) → Octets
 placeAt queue k = part (placeSize * k) placeSize queue
 
 -- queue and outstanding vector have their sizes (the code's types see to it)
-pub record Shaped (vlr : Vlr) : Type 0 where
+pub record VlrShaped (vlr : Vlr) : Type 0 where
   pub queue : length (vlr .queue) ≡ placeSize * mostHeld
   pub out : length (vlr .out) ≡ placeSize
 
@@ -187,10 +187,10 @@ module _ (vlr : Vlr) (call : Call) (a : VlrAnswer) where
     pub stays : (refusalOf (a .outcome) ≡ 0 → ⊥) → a ≡ noOctets (a .outcome) vlr
     pub cause0 : ((n : ℕ) → a .outcome ≡ cause n → ⊥) → causeOf (a .outcome) ≡ 0
     -- otherwise the call does what document 01 says of it
-    pub does : Shaped vlr → refusalOf (a .outcome) ≡ 0 → Does vlr a call
+    pub does : VlrShaped vlr → refusalOf (a .outcome) ≡ 0 → Does vlr a call
     -- a valid record is followed by a valid record
-    pub stays-valid : Shaped vlr → validVlr vlr ≡ true → validVlr (a .vlr) ≡ true
-    pub stays-shaped : Shaped vlr → Shaped (a .vlr)
+    pub stays-valid : VlrShaped vlr → validVlr vlr ≡ true → validVlr (a .vlr) ≡ true
+    pub stays-shaped : VlrShaped vlr → VlrShaped (a .vlr)
 
 pub record VlrPromise : Type 0 where
   pub laws : (vlr : Vlr) (call : Call) → VlrLaws vlr call (reply vlr call)
@@ -204,4 +204,4 @@ pub record VlrPromise : Type 0 where
       ↔ ((vlr .held ≤ mostHeld) × ((i : ℕ) → placeSize * vlr .held ≤ i → getD (vlr .queue) i 0 ≡ 0)
       × ((vlr .state ≡ asked → ⊥) → (i : ℕ) → getD (vlr .out) i 0 ≡ 0))
   pub new-valid : validVlr newVlr ≡ true
-  pub new-shaped : Shaped newVlr
+  pub new-shaped : VlrShaped newVlr
