@@ -87,7 +87,7 @@ fn one_of_each(random: &mut Random) -> Vec<Vec<u8>> {
 }
 
 /// Each field left out, empty, `-`, doubled, a digit short and a digit long.
-fn other_fields(line: &[u8]) -> Vec<Vec<u8>> {
+pub fn other_fields(line: &[u8]) -> Vec<Vec<u8>> {
     let fields: Vec<&[u8]> = line.split(|&b| b == b' ').collect();
     let mut lines = Vec::new();
     for place in 0..fields.len() {

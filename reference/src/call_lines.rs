@@ -74,7 +74,7 @@ pub fn random_card(set: u8, random: &mut Random) -> Card {
 }
 
 /// SEQs about the place at IND, about SEQ_MS and about the largest jump.
-fn random_sqn(card: &Card, random: &mut Random) -> u64 {
+pub fn random_sqn(card: &Card, random: &mut Random) -> u64 {
     let ind = random.below(PLACES);
     let seq_ms = card.seq_ms();
     let seq = match random.below(8) {

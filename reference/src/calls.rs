@@ -4,7 +4,7 @@ use crate::functions::Subscriber;
 use crate::text::{self, read_hex, read_number, write_hex, BAD_LINE};
 use crate::usim::Refusal;
 use crate::vlr::Node;
-use crate::{auc_calls, usim_calls, vlr_calls};
+use crate::{auc_calls, handset_calls, usim_calls, vlr_calls};
 
 /// The most bytes that a line may have.
 pub const LONGEST: usize = 4_096;
@@ -36,6 +36,7 @@ fn call(node: &mut Node, line: &[u8]) -> Option<Vec<u8>> {
     let fields: Vec<&[u8]> = line.split(|&b| b == b' ').collect();
     usim_calls::call(&fields)
         .or_else(|| auc_calls::call(&fields))
+        .or_else(|| handset_calls::call(&fields))
         .or_else(|| vlr_calls::call(node, &fields))
 }
 

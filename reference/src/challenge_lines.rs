@@ -8,7 +8,7 @@ use crate::random::Random;
 use crate::text::read_hex;
 use crate::usim::{sqn, sqn_bytes, Card, D, PLACES, SEQ_LIMIT};
 
-const SETS: [u8; 2] = [0, 1];
+pub const SETS: [u8; 2] = [0, 1];
 
 /// Challenges to one card, each lent the record that the one before returned.
 struct Story<'a> {
@@ -91,7 +91,7 @@ fn hex<const N: usize>(digits: &str) -> [u8; N] {
     read_hex(digits.as_bytes()).expect("hex of this length")
 }
 
-fn sample_subscriber() -> Subscriber {
+pub fn sample_subscriber() -> Subscriber {
     Subscriber {
         set: 0,
         k: hex("000102030405060708090a0b0c0d0e0f"),

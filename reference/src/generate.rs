@@ -7,7 +7,7 @@ use crate::damage::{self, places, STRANGE};
 use crate::random::Random;
 use crate::{aes_vectors, bench, calls, function_vectors, published};
 use crate::{auc_form_lines, auc_image_lines, batch_lines, bench_lines, node_lines};
-use crate::{call_lines, challenge_lines, form_lines, image_lines};
+use crate::{call_lines, challenge_lines, form_lines, handset_lines, image_lines};
 
 /// The size of the pieces in which a program may read its input. Lines are
 /// laid across the boundaries between such pieces on purpose.
@@ -180,11 +180,12 @@ fn calls_input(node_lines: NodeLines) -> Vec<u8> {
     if node_lines == NodeLines::With {
         input.due.extend(node_lines::lines());
     }
+    input.due.extend(handset_lines::lines());
     input.finish()
 }
 
 /// The lines for the centre, which come after those for the card. They have
-/// random numbers of their own, and so have those for the node.
+/// random numbers of their own, and so have those for the node and the handset.
 fn centre_lines() -> Vec<Vec<u8>> {
     let mut random = Random::new(33_103);
     let mut lines = batch_lines::published(&mut random);

@@ -1,9 +1,9 @@
 //! The independent second program of Vetrhoss.
 //!
 //! It is written from FIPS 197, TS 35.206 and the project's own rules for the
-//! test set, the card, the centre, the node and the bench alone, in the plainest
-//! form, so that its answers can be compared with those of the proved
-//! implementation.
+//! test set, the card, the centre, the node, the handset and the bench alone, in
+//! the plainest form, so that its answers can be compared with those of the
+//! proved implementation.
 
 pub mod aes;
 pub mod aes_vectors;
@@ -27,6 +27,10 @@ pub mod form_lines;
 pub mod function_vectors;
 pub mod functions;
 pub mod generate;
+pub mod handset;
+pub mod handset_calls;
+pub mod handset_form_lines;
+pub mod handset_lines;
 pub mod image;
 pub mod image_lines;
 pub mod milenage;

@@ -1,5 +1,5 @@
-//! The lines for the node that `calls` keeps. They come last of all, and each
-//! meets the node that the lines before it left.
+//! The lines for the node that `calls` keeps. Each meets the node that the lines
+//! before it left.
 
 use crate::calls;
 use crate::random::Random;

@@ -1,9 +1,9 @@
 //! The generated calls: what they must hold.
 
-use reference::calls;
 use reference::generate::{files, NodeLines, LONG, PIECE};
 use reference::image::LENGTH;
 use reference::text::lines;
+use reference::{calls, handset_lines};
 
 struct Calls {
     input: Vec<u8>,
@@ -102,6 +102,16 @@ fn every_answer_to_every_word() {
         ("resync ", "refused 6", 20),
         ("vector ", "vector -", 80),
         ("vector ", "bad line", 30),
+        ("phone ", "repeat ", 130),
+        ("phone ", "fresh ", 130),
+        ("phone ", "sync - ", 90),
+        ("phone ", "mac - ", 60),
+        ("phone ", "refused 1", 30),
+        ("phone ", "refused 3 - ", 140),
+        ("phone ", "bad line", 60),
+        ("phone-clear ", "done 0 ", 20),
+        ("phone-clear ", "refused 3 ", 40),
+        ("phone-clear ", "bad line", 60),
     ] {
         let found = calls.count(word.as_bytes(), answer.as_bytes());
         assert!(found >= least, "{word}{answer}: {found}");
@@ -153,15 +163,19 @@ fn every_pair_of_equal_rands_is_named() {
 }
 
 #[test]
-fn the_lines_for_the_node_come_last_and_can_be_left_out() {
+fn the_lines_for_the_node_can_be_left_out_and_those_for_the_handset_come_last() {
     let with = Calls::generated();
     let without = file(NodeLines::Without, "calls/stdin");
     let (all, fewer) = (lines(&with.input), lines(&without));
-    // An empty line and a good one end both.
-    let same = fewer.len() - 2;
+    // An empty line and a good one end both, behind the lines for the handset.
+    let handset_lines = handset_lines::lines();
+    let last = handset_lines.len() + 2;
+    let (same, from) = (fewer.len() - last, all.len() - last);
     assert_eq!(all[..same], fewer[..same]);
+    assert_eq!(all[from..], fewer[same..]);
+    assert_eq!(all[from..all.len() - 2], handset_lines);
     let answers = lines(&with.output);
-    let node_lines = &answers[same..answers.len() - 2];
+    let node_lines = &answers[same..from];
     let operations = node_lines.iter().filter(|line| **line != b"bad line");
     assert!(operations.count() >= 2_000);
     assert!(fewer.iter().all(|line| !line.starts_with(b"vlr-")));
@@ -238,16 +252,19 @@ fn the_size_the_bytes_and_the_end() {
 #[test]
 fn the_greatest_length_is_answered_and_no_more() {
     let calls = Calls::generated();
+    // A refused `phone` or `phone-clear` goes on behind its number.
     let answers = |length| -> Vec<&[u8]> {
         let pairs = calls.pairs();
         let fit = pairs.into_iter().filter(|(line, _)| line.len() == length);
-        fit.map(|(_, answer)| answer).collect()
+        fit.map(|(_, answer)| &answer[..answer.len().min(9)])
+            .collect()
     };
-    assert_eq!(answers(4_095), [b"refused 3"]);
-    let longest: [&[u8]; 3] = [b"refused 3", b"refused 3", b"vector -"];
+    assert_eq!(answers(4_095), [b"refused 3"; 2]);
+    let mut longest: [&[u8]; 7] = [b"refused 3"; 7];
+    longest[2] = b"vector -";
     assert_eq!(answers(4_096), longest);
-    assert_eq!(answers(4_097), [b"bad line"]);
-    assert_eq!(answers(4_098), [b"bad line", b"bad line"]);
+    assert_eq!(answers(4_097), [b"bad line"; 2]);
+    assert_eq!(answers(4_098), [b"bad line"; 5]);
 }
 
 /// Where each line starts, with the line.

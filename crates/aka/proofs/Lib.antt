@@ -24,4 +24,7 @@ pub mod VlrWitnesses
 pub mod ShutOut
 pub mod Rising
 pub mod Demand3
+pub mod Handset
+pub mod HandsetLaws
+pub mod RepeatedChallenge
 pub mod Table

@@ -1,5 +1,5 @@
--- How a vector, AUTN and AUTS lie in octets: sizes and places, writing and reading; and the parts of lent octets.
--- TS 33.102 §6.3.2 and §6.3.3; document 01, 'Numbers and records'. Assumes nothing.
+-- How AUTN, AUTS, a vector and a handset's answer lie in octets: sizes and places, writing and reading; and the parts of lent octets.
+-- TS 33.102 §6.3.2 and §6.3.3; document 01, 'Numbers and records'; document 02, #101. Assumes nothing.
 use Prim.Native.Nat.{ℕ, zero, suc, _+_, _*_, _/_, _%_}
 use mathlib.Core.Bool.{Bool, _&&_, cond}
 use mathlib.Core.List.{[], _++_}
@@ -74,6 +74,15 @@ writeAuts a = a .concealed ++ a .mac
 unfoldable pub readAuts : Octets → Auts
 readAuts x = record { concealed = part 0 sqnSize x; mac = part macSAt macSize x }
 
+-- ---- a response
+
+-- RES or XRES as it lies in a vector and in a handset's answer: it has one length, and so it stands there as it is
+abbrev pub writeResponse : Octets → Octets
+writeResponse res = res
+
+abbrev pub responseSize : ℕ
+responseSize = resSize
+
 -- ---- a vector: RAND, XRES, CK, IK, AUTN
 
 -- where its parts begin, and its size: 72 octets
@@ -81,7 +90,7 @@ abbrev pub xresAt : ℕ
 xresAt = randSize
 
 abbrev pub ckAt : ℕ
-ckAt = xresAt + resSize
+ckAt = xresAt + responseSize
 
 abbrev pub ikAt : ℕ
 ikAt = ckAt + ckSize
@@ -100,7 +109,7 @@ pub record Vector : Type 0 where
   pub autn : Octets
 
 unfoldable pub writeVector : Vector → Octets
-writeVector v = v .rand ++ (v .xres ++ (v .ck ++ (v .ik ++ v .autn)))
+writeVector v = v .rand ++ (writeResponse (v .xres) ++ (v .ck ++ (v .ik ++ v .autn)))
 
 unfoldable pub readVector : Octets → Vector
 readVector x = record {
@@ -110,6 +119,20 @@ readVector x = record {
   ik = part ikAt ikSize x;
   autn = part autnAt autnSize x;
 }
+
+-- ---- the answer of a handset: RES, CK, IK; and what its store has: RAND, and the answer behind it
+
+abbrev pub answerSize : ℕ  -- 40
+answerSize = responseSize + ckSize + ikSize
+
+unfoldable pub writeAnswer : (res ck ik : Octets) → Octets
+writeAnswer res ck ik = writeResponse res ++ (ck ++ ik)
+
+abbrev pub answerAt : ℕ
+answerAt = randSize
+
+abbrev pub storeSize : ℕ  -- 56
+storeSize = answerAt + answerSize
 
 -- ---- lent octets: RANDs and a batch, one behind the other; places count from 0
 

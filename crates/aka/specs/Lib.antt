@@ -1,4 +1,5 @@
--- Authentication and key agreement (TS 33.102 §6.3) on paper: what USIM, AuC and VLR do, and what is promised of them. Read in this order:
+-- Authentication and key agreement (TS 33.102 §6.3) on paper: what USIM, AuC, VLR and handset do, and what is promised of them. Read in
+-- this order:
 --   Layout      octets of AUTN, AUTS and a vector; parts of lent octets
 --   Functions   f1 to f5*, the keys, and the laws of a family of function sets
 --   Sequence    SQN, SEQ, IND, the limit, D
@@ -10,6 +11,10 @@
 --   Table       the worked table of document 01
 --   UsimLaws, AucLaws, VlrLaws    the other sentences of document 01 on card, centre and node, as laws
 --   OrderOfUse  over every list of calls the node uses each vector once, oldest first, and holds what was stored and not used
+--   Handset     the phone: its store, and its answer to a challenge (document 02, #101)
+--   HandsetLaws the sentences of document 02 on it, as laws
+--   RepeatedChallenge  over every list of calls at a phone a RAND that comes again is answered again, until the store is cleared or
+--               another challenge is accepted
 --
 -- How to read a definition. `f : A → B` says that f takes an A and gives a B; `f a b` applies it; `λ x. e` is the function that gives e
 -- for x; `let x = a in e` is e with x standing for a. `pub`, `abbrev` and `unfoldable` only say who may use and open a definition. A
@@ -43,3 +48,6 @@ pub mod UsimLaws
 pub mod AucLaws
 pub mod VlrLaws
 pub mod OrderOfUse
+pub mod Handset
+pub mod HandsetLaws
+pub mod RepeatedChallenge

@@ -63,6 +63,22 @@ pub const AUTN_AT: usize = IK_AT + IK_SIZE;
 
 pub const VECTOR_SIZE: usize = AUTN_AT + AUTN_SIZE;
 
+// ---- the handset: its answer has RES, CK and IK; its store has RAND, and the answer behind it
+
+// Where CK and IK begin in an answer.
+pub const ANSWER_CK_AT: usize = RES_SIZE;
+
+pub const ANSWER_IK_AT: usize = ANSWER_CK_AT + CK_SIZE;
+
+pub const ANSWER_SIZE: usize = ANSWER_IK_AT + IK_SIZE;
+
+// Where the answer begins in a store.
+pub const ANSWER_AT: usize = RAND_SIZE;
+
+pub const STORE_SIZE: usize = ANSWER_AT + ANSWER_SIZE;
+
+// ---- batches
+
 // The most vectors of a batch.
 pub const MOST_VECTORS: u64 = 5;
 

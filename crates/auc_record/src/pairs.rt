@@ -13,21 +13,6 @@ pub enum Pair {
     EqualAt(u8, u8),
 }
 
-// Whether two strings of one length are equal. It ends at the first difference: RANDs are no secret.
-fn equal_octets(x: &[u8], y: &[u8]) -> bool
-    requires { ⌜ length (now x) ≡ length (now y) ⌝ }
-    ensures { λ r. ⌜ r ≡ equal (now (x .entry)) (now (y .entry)) ⌝ }
-{
-    let mut i: usize = 0;
-    while i < x.len() {
-        if x[i] != y[i] {
-            return false;
-        }
-        i += 1;
-    }
-    true
-}
-
 // Whether the RANDs at places i and j are equal.
 fn equal_rands(rands: &[u8], i: u8, j: u8) -> bool
     requires { ⌜ (randSize * i + randSize ≤ length (now rands)) × (randSize * j + randSize ≤ length (now rands)) ⌝ }
@@ -35,7 +20,7 @@ fn equal_rands(rands: &[u8], i: u8, j: u8) -> bool
 {
     let p = aka::RAND_SIZE * (i as usize);
     let q = aka::RAND_SIZE * (j as usize);
-    equal_octets(&rands[p..p + aka::RAND_SIZE], &rands[q..q + aka::RAND_SIZE])
+    octets::equal(&rands[p..p + aka::RAND_SIZE], &rands[q..q + aka::RAND_SIZE])
 }
 
 // The earliest pair among n RANDs: the smallest first place, then the smallest second.

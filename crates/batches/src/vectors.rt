@@ -31,17 +31,6 @@ fn autn(
     tokens::autn(sqn, ak, amf, mac)
 }
 
-// Puts `part` into a batch, from `at` on. What stands before and behind stays.
-fn put(batch: &mut [u8], at: usize, part: &[u8])
-    requires { ⌜ at + length (now part) ≤ length (now batch) ⌝ }
-    ensures { λ _. ⌜
-        now (batch .exit)
-        ≡ take at (now (batch .entry)) ++ now (part .entry) ++ drop (at + length (now (part .entry))) (now (batch .entry))
-        ⌝ }
-{
-    bytes::copy(part, &mut batch[at..]);
-}
-
 // Puts the parts of a vector into a batch, from `at` on. What stands before and behind stays.
 fn put_parts(
     batch: &mut [u8],
@@ -59,11 +48,11 @@ fn put_parts(
         ++ drop (at + vectorSize) (now (batch .entry))
         ⌝ }
 {
-    put(batch, at, &rand);
-    put(batch, at + aka::XRES_AT, &xres);
-    put(batch, at + aka::CK_AT, &ck);
-    put(batch, at + aka::IK_AT, &ik);
-    put(batch, at + aka::AUTN_AT, &autn);
+    octets::put(batch, at, &rand);
+    octets::put(batch, at + aka::XRES_AT, &xres);
+    octets::put(batch, at + aka::CK_AT, &ck);
+    octets::put(batch, at + aka::IK_AT, &ik);
+    octets::put(batch, at + aka::AUTN_AT, &autn);
 }
 
 // Puts the vector of a RAND taken up into a batch, from `at` on. What stands before and behind stays.

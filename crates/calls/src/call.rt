@@ -2,9 +2,9 @@
 use fields::Number;
 use functions::Keys;
 ghost use Prim.Native.Nat.{_<_, _≤_};
-ghost use Rattle.calls.specs.Limits.{mostFields, mostLent};
+ghost use Rattle.calls.specs.Limits.{longest, mostFields, mostLent};
 
-// The bytes of the longest line that is answered, and of the longest answer.
+// The bytes of the longest line that is answered.
 pub const LONGEST: usize = 4096;
 
 // The octets of the largest buffer that is lent for an image or a batch.
@@ -12,6 +12,9 @@ pub const MOST_LENT: usize = 512;
 
 // The sizes that such a buffer may have, 0 among them.
 const LENT_SIZES: u64 = MOST_LENT as u64 + 1;
+
+// The sizes that the octets of a field may have: a field is shorter than its line.
+const SIZES: u64 = LONGEST as u64 + 1;
 
 // The fields of a line.
 const MOST_FIELDS: usize = 40;
@@ -99,15 +102,16 @@ fn find_word(words: &[u8], word: &[u8]) -> Entry {
     }
 }
 
-// A form has a letter for each field, a small one for a number and a capital one for octets: `s` a state, `b` what has one octet, `l` the
-// length of a lent buffer, `n` any number; `A` AMF, `K` a key, `V` a vector, `P` the node's places, `O` any octets. Whether the number, or
-// how many octets there are, is right for the letter.
+// A form has a letter for each field, a small one for a number and a capital one for octets: `d` one digit, 0 or 1, `s` a state, `b` what
+// has one octet, `l` the length of a lent buffer, `n` any number; `A` AMF, `K` a key, `V` a vector, `P` the node's places, `O` any octets.
+// Whether the number, or how many octets there are, is right for the letter.
 fn fits(kind: u8, n: Number) -> bool {
     if !n.ok {
         return false;
     }
     let size = n.value;
     match kind {
+        b'd' => size <= 1,
         b's' => size <= 2,
         b'b' => size <= 255,
         b'l' => size <= MOST_LENT as u64,
@@ -116,6 +120,13 @@ fn fits(kind: u8, n: Number) -> bool {
         b'V' => size == aka::VECTOR_SIZE as u64,
         b'P' => size <= aka::QUEUE_SIZE as u64,
         _ => true,
+    }
+}
+
+fn no_number() -> Number {
+    Number {
+        ok: false,
+        value: 0,
     }
 }
 
@@ -129,10 +140,7 @@ fn read_octets(text: &[u8], out: &mut [u8]) -> Number {
         };
     }
     if out.len() < size {
-        return Number {
-            ok: false,
-            value: 0,
-        };
+        return no_number();
     }
     Number {
         ok: hex::read(text, &mut out[0..size]),
@@ -140,9 +148,20 @@ fn read_octets(text: &[u8], out: &mut [u8]) -> Number {
     }
 }
 
+// A number has up to 20 digits, a digit is alone.
+fn most_digits(kind: u8) -> usize {
+    if kind == b'd' {
+        return 1;
+    }
+    fields::MOST_DIGITS
+}
+
 fn read_value(kind: u8, text: &[u8], out: &mut [u8]) -> Number {
     if kind < b'a' {
         return read_octets(text, out);
+    }
+    if most_digits(kind) < text.len() {
+        return no_number();
     }
     fields::read_number(text)
 }
@@ -240,6 +259,21 @@ pub fn lent_size(c: Call, i: usize) -> usize
     ensures { λ r. ⌜ r ≤ mostLent ⌝ }
 {
     (number(c, i) % LENT_SIZES) as usize
+}
+
+// Whether field `i`, a digit, is 1.
+pub fn mark(c: Call, i: usize) -> bool
+    requires { ⌜ i < mostFields ⌝ }
+{
+    number(c, i) == 1
+}
+
+// How many octets field `i` has.
+pub fn size(c: Call, i: usize) -> usize
+    requires { ⌜ i < mostFields ⌝ }
+    ensures { λ r. ⌜ r ≤ longest ⌝ }
+{
+    (number(c, i) % SIZES) as usize
 }
 
 // The octets of field `i`.

@@ -1,6 +1,7 @@
 // The public calls, one a line: a word, then fields with one space between. docs/CALLS.md has the words.
 mod auc_calls;
 mod call;
+mod handset_calls;
 mod text;
 mod usim_calls;
 mod vlr_calls;
@@ -14,7 +15,7 @@ ghost use lib.ListN.{length};
 ghost use Rattle.aka.specs.Vlr.{newVlr};
 ghost use Rattle.vlr_record.specs.Views.{vlrOf};
 ghost use Rattle.console.specs.Turns.{AnsweredIf, Ran, standingOf};
-ghost use Rattle.calls.specs.Limits.{longest};
+ghost use Rattle.calls.specs.Limits.{longestAnswer};
 ghost use Rattle.calls.specs.Program.{AnyAnswer};
 
 // The answer to a line, and the node for the next one.
@@ -24,6 +25,10 @@ fn answer(node: Vlr, line: &[u8]) -> Answered {
         return Answered { vlr: node, text };
     }
     let text = auc_calls::answer(line);
+    if text.size != 0 {
+        return Answered { vlr: node, text };
+    }
+    let text = handset_calls::answer(line);
     if text.size != 0 {
         return Answered { vlr: node, text };
     }
@@ -38,7 +43,7 @@ pub struct Turn {
 
 // Answers the line where it is whole. The buffer of answers has room for two.
 fn put_answer(node: Vlr, line: &[u8], out: &mut [u8], p: Progress) -> Turn
-    requires { ⌜ 2 * (longest + 1) ≤ length (now out) ⌝ }
+    requires { ⌜ 2 * (longestAnswer + 1) ≤ length (now out) ⌝ }
     ensures { λ r. ⌜
         ((piece : List ℕ) → AnsweredIf (p .ready) AnyAnswer (length (now (out .entry)))
         (vlrOf node) (standingOf piece (now (line .entry)) (now (out .entry)) p)
@@ -52,7 +57,7 @@ fn put_answer(node: Vlr, line: &[u8], out: &mut [u8], p: Progress) -> Turn
     let vlr = answered.vlr;
     let text = answered.text;
     let bytes = text.bytes;
-    let mut whole = [0u8; call::LONGEST + 1];
+    let mut whole = [0u8; text::LONGEST_ANSWER + 1];
     let n = console::append(&mut whole, 0, console::first_bytes(&bytes, text.size));
     let n = console::append(&mut whole, n, b"\n");
     let progress = console::put_answer(out, p, console::first_bytes(&whole, n));
@@ -64,7 +69,7 @@ fn put_answer(node: Vlr, line: &[u8], out: &mut [u8], p: Progress) -> Turn
 
 // Answers every line of the input. A proved loop has to end, so this one counts its turns down, from a number that no run uses up.
 fn answer_all(piece: &mut [u8], line: &mut [u8], out: &mut [u8]) -> Turn
-    requires { ⌜ 2 * (longest + 1) ≤ length (now out) ⌝ }
+    requires { ⌜ 2 * (longestAnswer + 1) ≤ length (now out) ⌝ }
     ensures { λ r. ⌜
         Ran AnyAnswer newVlr (length (now (line .entry))) (length (now (out .entry)))
         (vlrOf (r .node)) (standingOf (now (piece .exit)) (now (line .exit)) (now (out .exit)) (r .progress))

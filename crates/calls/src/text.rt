@@ -3,15 +3,19 @@ use crate::call::LONGEST;
 use crate::call::MOST_LENT;
 use functions::Keys;
 
-// The bytes of an answer without its newline: none, where the line is not answered. The longest is that of a node, and has room.
+// The bytes of the longest answer: that of a `phone` that is refused. Its fields without RAND and AUTN come back, and it has 31 bytes more
+// than its line.
+pub const LONGEST_ANSWER: usize = LONGEST + 31;
+
+// The bytes of an answer without its newline: none, where the line is not answered.
 pub struct Text {
-    pub bytes: [u8; LONGEST],
+    pub bytes: [u8; LONGEST_ANSWER],
     pub size: usize,
 }
 
 pub fn no_text() -> Text {
     Text {
-        bytes: [0; LONGEST],
+        bytes: [0; LONGEST_ANSWER],
         size: 0,
     }
 }

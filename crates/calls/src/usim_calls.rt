@@ -106,8 +106,13 @@ fn put_accepted(sqn: u64, a: usim::Answer) -> Text {
     let ck = a.ck;
     let ik = a.ik;
     let next = a.usim;
-    let mut image = [0u8; usim_image::SIZE];
-    usim_image::write(next, &mut image);
     let t = text::put_octets(text::numbered(b"accepted", sqn), &res);
-    text::put_octets(text::put_two(t, ck, ik), &image)
+    put_image(text::put_two(t, ck, ik), next)
+}
+
+// Puts a card by its image.
+pub fn put_image(t: Text, card: Usim) -> Text {
+    let mut image = [0u8; usim_image::SIZE];
+    usim_image::write(card, &mut image);
+    text::put_octets(t, &image)
 }

@@ -50,3 +50,9 @@ put-next {d} {done} {b} {b′} {at} x n f put same h =
 pub filled-all : {d done b : Octets} {at : ℕ} → Filled d done at b → length d ≡ at → b ≡ done
 filled-all {d} {done} {b} {at} f e =
     f .is ∙ ap (λ (l : Octets). done ++ l) (ap (λ (k : ℕ). drop k d) (sym e) ∙ drop-length d) ∙ append-nil done
+
+-- a part put over the whole of a buffer
+pub put-whole : (d x : Octets) {b : Octets} → b ≡ take 0 d ++ x ++ drop (0 + length x) d → length d ≡ length x → b ≡ x
+put-whole d x e same =
+    let all : 0 + length x ≡ length d = omega arith in
+    e ∙ ap (λ (k : ℕ). x ++ drop k d) all ∙ ap (λ (l : Octets). x ++ l) (drop-length d) ∙ append-nil x

@@ -1,9 +1,36 @@
 // Octet strings. The definitions are in specs/, the laws that every layer shares in proofs/, and here are the few functions on
 // octets that several layers call.
+ghost use mathlib.Core.List.{_++_};
 ghost use mathlib.Core.Path.{_≡_};
-ghost use Prim.Native.Nat.{_≤_};
-ghost use lib.ListN.{length};
-ghost use Rattle.octets.specs.Octets.{part, xor};
+ghost use Prim.Native.Nat.{_+_, _≤_};
+ghost use lib.ListN.{length, take, drop};
+ghost use Rattle.octets.specs.Octets.{part, xor, equal as equalTo};
+
+// Whether two strings of one length are equal. It ends at the first difference, and so is for what is no secret, like a RAND.
+pub fn equal(x: &[u8], y: &[u8]) -> bool
+    requires { ⌜ length (now x) ≡ length (now y) ⌝ }
+    ensures { λ r. ⌜ r ≡ equalTo (now (x .entry)) (now (y .entry)) ⌝ }
+{
+    let mut i: usize = 0;
+    while i < x.len() {
+        if x[i] != y[i] {
+            return false;
+        }
+        i += 1;
+    }
+    true
+}
+
+// Puts `part` into a buffer, from `at` on. What stands before and behind stays.
+pub fn put(buffer: &mut [u8], at: usize, part: &[u8])
+    requires { ⌜ at + length (now part) ≤ length (now buffer) ⌝ }
+    ensures { λ _. ⌜
+        now (buffer .exit)
+        ≡ take at (now (buffer .entry)) ++ now (part .entry) ++ drop (at + length (now (part .entry))) (now (buffer .entry))
+        ⌝ }
+{
+    bytes::copy(part, &mut buffer[at..]);
+}
 
 // 16 lent octets.
 pub fn sixteen(s: &[u8]) -> [u8; 16]

@@ -35,7 +35,7 @@ entry c = ready c .before .before .before .before
 abbrev text : tie.After-put-answer → List ℕ
 text c = shown c .first-bytes3 .result .now
 
--- an answer has at most 4,097 bytes
+-- an answer has at most 4,128 bytes with its newline
 short : (c : tie.After-put-answer) → length (text c) ≤ length (entry c .args .out .now) / 2
 short c =
     let size = simp length-take at (ap length (shown c .first-bytes3 .ensures)) in

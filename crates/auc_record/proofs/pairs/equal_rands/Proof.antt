@@ -9,7 +9,7 @@ use Rattle.auc_record.proofs.pairs.equal_rands.Tie as tie
 returns : tie.Need-returns
 returns c =
     let args = c .before .before .before .before .args in
-    rw (add-sub-cancel-left (randSize * args .i) randSize, add-sub-cancel-left (randSize * args .j) randSize) at (c .equal-octets .ensures)
+    rw (add-sub-cancel-left (randSize * args .i) randSize, add-sub-cancel-left (randSize * args .j) randSize) at (c .equal .ensures)
 
 pub equal-rands-spec : {M : Type 1} → statement M
 equal-rands-spec =

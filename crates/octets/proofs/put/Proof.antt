@@ -1,10 +1,10 @@
 -- `put` puts one part. Assumes nothing.
 use mathlib.Core.Path.{refl}
 use native.Mathlib.Omega.{arith}
 use Rattle.octets.proofs.PartByPart.{put-at}
 use borrow.Author.Needs.{needs}
-use Rattle.batches.proofs.vectors.put.Statement.{statement}
-use Rattle.batches.proofs.vectors.put.Tie as tie
+use Rattle.octets.proofs.put.Statement.{statement}
+use Rattle.octets.proofs.put.Tie as tie
 
 abbrev entry : tie.After-copy → tie.Start
 entry c = c .before .before .before .before
@@ -13,7 +13,7 @@ returns : tie.Need-returns
 returns c =
     let copied = c .before .before in
     let args = entry copied .args in
-    put-at (args .part .now) (args .batch .now) (args .at) _ refl (copied .copy .ensures .1) (omega arith)
+    put-at (args .part .now) (args .buffer .now) (args .at) _ refl (copied .copy .ensures .1) (omega arith)
 
 pub put-spec : {M : Type 1} → statement M
 put-spec =

@@ -1,4 +1,4 @@
--- `equal_octets` is `equal`. The loop's invariant: the octets from i on decide. Assumes nothing.
+-- `equal` is the definition's. The loop's invariant: the octets from i on decide. Assumes nothing.
 use Prim.Native.Nat.{_+_, _-_, _≤_}
 use mathlib.Core.Bool.{_&&_}
 use mathlib.Core.Path.{_≡_, refl, sym, _∙_}
@@ -6,11 +6,11 @@ use native.Mathlib.Omega.{arith}
 use borrow.Author.Tests.{eq-eqb, ne-eqb}
 use lib.Dec.{eqb}
 use lib.ListN.{length, getD, drop, drop-of-length-le}
 use Rattle.octets.specs.Octets.{Octets, equal}
 use Rattle.octets.proofs.Parts.{drop-next}
 use borrow.Author.Needs.{needs}
-use Rattle.auc_record.proofs.pairs.equal_octets.Statement.{statement}
-use Rattle.auc_record.proofs.pairs.equal_octets.Tie as tie
+use Rattle.octets.proofs.equal.Statement.{statement}
+use Rattle.octets.proofs.equal.Tie as tie
 
 abbrev Inv-loop : tie.InvT-loop
 Inv-loop x y i₀ i = (i ≤ length x) × (equal x y ≡ equal (drop i x) (drop i y))
@@ -57,8 +57,8 @@ returns-2 c =
     let size = same-size at in
     sym (at .loop .inv .1 ∙ rw (drop-of-length-le (x at) {i = i} (omega arith), drop-of-length-le (y at) {i = i} (omega arith)))
 
-pub equal-octets-spec : {M : Type 1} → statement M
-equal-octets-spec =
+pub equal-spec : {M : Type 1} → statement M
+equal-spec =
     tie.close
     (tie.spec
     Inv-loop μ-loop (λ c. (omega arith, refl)) (λ c. search needs) (λ c. search needs) returns (λ c. search needs)

@@ -1,0 +1,3 @@
+mod Contracts
+pub mod Running
+mod Witness
