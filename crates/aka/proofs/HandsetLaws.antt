@@ -11,8 +11,10 @@ use Rattle.octets.specs.Octets.{Octets, zeros, part}
 use Rattle.octets.proofs.Strings.{equal-true, equal-self}
 use Rattle.aka.specs.Layout.{autnSize, autsSize, writeAnswer}
 use Rattle.aka.specs.Functions.{Family}
-use Rattle.aka.specs.Usim.{Usim}
-use Rattle.aka.specs.Handset.{Store, repeats, Outcome, HandsetAnswer, partsRight, challenged, answerWith, clear}
+use Rattle.aka.specs.Usim.{Usim, challenge}
+use Rattle.aka.specs.Usim as card
+use Rattle.aka.specs.Handset.{Store, repeats, Outcome, refusalOf, handedOn, HandsetAnswer, partsRight, nothingShown}
+use Rattle.aka.specs.Handset.{challenged, answerWith, clear}
 use Rattle.aka.specs.Handset.{repeated, accepted, macFailure, syncFailure, refused}
 use Rattle.aka.specs.HandsetLaws.{LengthsNamed, Unchanged, Taken, HandsetLaws, HandsetPromise}
 use Rattle.aka.proofs.Handset as known
@@ -95,13 +97,29 @@ module _ (w : ℕ) (family : Family) (usim : Usim) (store : Store) (rand autn fr
   unchanged syncFailure e h = stays _ (is syncFailure e) (refl, refl, refl)
   unchanged (refused number) e h = stays _ (is (refused number) e) (refl, refl, refl)
 
+  handed-number : (v : card.Verdict) → refusalOf (handedOn v) ≡ card.refusalOf v
+  handed-number card.accepted = refl
+  handed-number card.macFailure = refl
+  handed-number card.syncFailure = refl
+  handed-number (card.refused number) = refl
+
+  wrong : (LengthsNamed store rand autn fresh → ⊥) → answer ≡ nothingShown usim store fresh (refused 3) (zeros autsSize)
+  wrong h = known.wrong-length w family usim store rand autn fresh (not-fit store rand autn fresh h)
+
+  asks : LengthsNamed store rand autn fresh → repeats store rand ≡ false
+      → answer .outcome ≡ handedOn (challenge w family usim rand autn .verdict)
+  asks n other = known.asks-card w family usim store rand autn fresh (fits store rand autn fresh n) other
+
   laws : HandsetLaws w family usim store rand autn fresh
   unfolding answerWith
   laws = record {
-    refusal3 = λ h. known.wrong-length w family usim store rand autn fresh (not-fit store rand autn fresh h);
+    refusal3 = wrong;
+    number3 = λ h. ap (λ (x : HandsetAnswer). refusalOf (x .outcome)) (wrong h);
+    number0 = λ e. ap refusalOf e;
+    number = λ n other. ap refusalOf (asks n other) ∙ handed-number (challenge w family usim rand autn .verdict);
     same = λ n same. ap (λ (x : HandsetAnswer). x .outcome)
         (known.repeats-it w family usim store rand autn fresh (fits store rand autn fresh n) same);
-    other = λ n other. known.asks-card w family usim store rand autn fresh (fits store rand autn fresh n) other;
+    other = asks;
     taken = taken;
     repeated-shown = λ e. ap (λ (x : HandsetAnswer). x .shown) (is repeated e);
     empty = λ h g. empty (answer .outcome) refl h g;

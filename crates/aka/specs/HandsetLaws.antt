@@ -9,7 +9,8 @@ use Rattle.octets.specs.Octets.{Octets, zeros, part}
 use Rattle.aka.specs.Layout.{autsSize}
 use Rattle.aka.specs.Functions.{Family, Lawful, Shaped}
 use Rattle.aka.specs.Usim.{Usim, UsimAnswer, challenge}
-use Rattle.aka.specs.Handset.{Store, repeats, handedOn, HandsetAnswer, nothingShown, challenged, told, inOrder, clear}
+use Rattle.aka.specs.Usim as card
+use Rattle.aka.specs.Handset.{Store, repeats, refusalOf, handedOn, HandsetAnswer, nothingShown, challenged, told, inOrder, clear}
 use Rattle.aka.specs.Handset.{repeated, accepted, syncFailure, refused}
 
 -- ---- one challenge, of any octets
@@ -50,6 +51,10 @@ module _ (w : ℕ) (family : Family) (usim : Usim) (store : Store) (rand autn fr
   pub record HandsetLaws : Type 0 where
     -- 'Refusals: 3 for a wrong length, else the card's own when it is asked.'
     pub refusal3 : (Named → ⊥) → answer ≡ nothingShown usim store fresh (refused 3) (zeros autsSize)
+    -- in document 01's numbers, 0 for none
+    pub number3 : (Named → ⊥) → refusalOf (answer .outcome) ≡ 3
+    pub number0 : answer .outcome ≡ repeated → refusalOf (answer .outcome) ≡ 0
+    pub number : Named → repeats store rand ≡ false → refusalOf (answer .outcome) ≡ card.refusalOf (asked .verdict)
     -- 'when the same RAND comes again, repeat the answer without asking the card'
     pub same : Named → repeats store rand ≡ true → answer .outcome ≡ repeated
     pub other : Named → repeats store rand ≡ false → answer .outcome ≡ handedOn (asked .verdict)
