@@ -20,7 +20,7 @@ use Rattle.aka.specs.Demand3.{Each}
 use Rattle.aka.specs.RepeatedChallenge.{Challenge, Call, challenging, clearing, CardShaped, Handled, answered, cleared, storeAfter}
 use Rattle.aka.specs.RepeatedChallenge.{Kept, heldIn, keptWith, keptAfter, Named, Again, repetition, Meets, MeetsIn, Repeats}
 use Rattle.aka.specs.RepeatedChallenge.{handle, alone, Domain, cs, ps, Phone, storeIn, withStore, On, isSame, only, together}
-use Rattle.aka.specs.RepeatedChallenge.{NothingNew, NotCleared, InWords, RepeatedChallenge}
+use Rattle.aka.specs.RepeatedChallenge.{NotAccepted, NotCleared, InWords, RepeatedChallenge}
 use Rattle.aka.proofs.Handset as known
 use Rattle.aka.proofs.HandsetLaws.{fits, named, handset-promise}
 
@@ -115,7 +115,10 @@ cleared-kept store = go (eqb (length (store .octets)) storeSize) refl
 module _ (w : ℕ) (family : Family) (lawful : Lawful family) where
   step-meets : (store : Store) (call : Call) → MeetsIn w family (heldIn store) (handle w family store call)
   step-meets store (challenging c) = meets w family c store
-  step-meets store clearing = handset-promise w family .clears store
+  step-meets store clearing = record {
+    done = handset-promise w family .clears store;
+    wrong = handset-promise w family .clear-refusal3 store;
+  }
 
   step-kept : (store : Store) (call : Call) → CardShaped call
       → keptAfter (handle w family store call) (heldIn store) ≡ heldIn (storeAfter (handle w family store call))
@@ -190,11 +193,11 @@ module _ (w : ℕ) (family : Family) where
   not-new syncFailure h latest kept = refl
   not-new (refused number) h latest kept = refl
 
-  same-kept : (h : Handled) → NothingNew h → NotCleared h → (kept : Option Kept) → keptAfter h kept ≡ kept
+  same-kept : (h : Handled) → NotAccepted h → NotCleared h → (kept : Option Kept) → keptAfter h kept ≡ kept
   same-kept (answered c store a) new clear kept = not-new (a .outcome) new _ kept
   same-kept (cleared store a) new clear kept = rw (ne-eqb (a .refusal) 0 clear)
 
-  none-kept : (h : Handled) → NothingNew h → keptAfter h none ≡ none
+  none-kept : (h : Handled) → NotAccepted h → keptAfter h none ≡ none
   none-kept (answered c store a) new = not-new (a .outcome) new _ none
   none-kept (cleared store a) new = go (eqb (a .refusal) 0)
     where
@@ -207,12 +210,12 @@ module _ (w : ℕ) (family : Family) where
   past-all kept [] rest same r = r
   past-all kept (h ∷ between) rest same r = past-all kept between rest (same .1) (kept-past kept h (between ++ rest) (same .0) r)
 
-  each-same : (between : List Handled) → Each NothingNew between → Each NotCleared between → (kept : Option Kept)
+  each-same : (between : List Handled) → Each NotAccepted between → Each NotCleared between → (kept : Option Kept)
       → Each (λ h. keptAfter h kept ≡ kept) between
   each-same [] new clear kept = tt
   each-same (h ∷ between) new clear kept = (same-kept h (new .0) (clear .0) kept, each-same between (new .1) (clear .1) kept)
 
-  each-none : (between : List Handled) → Each NothingNew between → Each (λ h. keptAfter h none ≡ none) between
+  each-none : (between : List Handled) → Each NotAccepted between → Each (λ h. keptAfter h none ≡ none) between
   each-none [] new = tt
   each-none (h ∷ between) new = (none-kept h (new .0), each-none between (new .1))
 
@@ -230,7 +233,7 @@ module _ (w : ℕ) (family : Family) where
 
   again : (kept : Option Kept) (c d : Challenge) (store later : Store) (a b : HandsetAnswer) (between rest : List Handled)
       → Repeats w family kept (answered c store a ∷ (between ++ (answered d later b ∷ rest)))
-      → a .outcome ≡ accepted → Each NothingNew between → Each NotCleared between → d .rand ≡ c .rand → Named d later
+      → a .outcome ≡ accepted → Each NotAccepted between → Each NotCleared between → d .rand ≡ c .rand → Named d later
       → b ≡ repetition (a .shown) d later
   unfolding Repeats
   again kept c d store later a b between rest r acc new clear same n =
@@ -242,7 +245,7 @@ module _ (w : ℕ) (family : Family) where
 
   nothing : (kept : Option Kept) (d : Challenge) (store later : Store) (a : Written) (b : HandsetAnswer) (between rest : List Handled)
       → Repeats w family kept (cleared store a ∷ (between ++ (answered d later b ∷ rest)))
-      → a .refusal ≡ 0 → Each NothingNew between → b .outcome ≡ repeated → ⊥
+      → a .refusal ≡ 0 → Each NotAccepted between → b .outcome ≡ repeated → ⊥
   unfolding Repeats
   nothing kept d store later a b between rest r done new e =
       let behind = subst (λ (n : ℕ). Repeats w family (cond (eqb n 0) none kept) (between ++ (answered d later b ∷ rest))) done (r .1) in

@@ -89,15 +89,22 @@ repetition answer c store = record {
   shown = answer;
 }
 
--- not an acceptance, and not a clearing
-abbrev pub NothingNew : Handled → Type 0
-NothingNew (answered c store a) = a .outcome ≡ accepted → ⊥
-NothingNew (cleared store a) = Unit {0}
+-- a call that is no acceptance
+abbrev pub NotAccepted : Handled → Type 0
+NotAccepted (answered c store a) = a .outcome ≡ accepted → ⊥
+NotAccepted (cleared store a) = Unit {0}
 
+-- a call that does not clear the store
 abbrev pub NotCleared : Handled → Type 0
 NotCleared (answered c store a) = Unit {0}
 NotCleared (cleared store a) = a .refusal ≡ 0 → ⊥
 
+-- a clearing
+pub record Clears (store : Store) (a : Written) : Type 0 where
+  pub done : length (store .octets) ≡ storeSize → a ≡ record { refusal = 0; store = handset.cleared }
+  pub wrong : (length (store .octets) ≡ storeSize → ⊥) → a ≡ record { refusal = 3; store = store }
+
+-- a challenge
 module _ (w : ℕ) (family : Family) where
   pub record Meets (kept : Option Kept) (c : Challenge) (store : Store) (a : HandsetAnswer) : Type 0 where
     -- the RAND that is kept, whatever AUTN and the card are
@@ -110,7 +117,7 @@ module _ (w : ℕ) (family : Family) where
 
   abbrev pub MeetsIn : Option Kept → Handled → Type 0
   MeetsIn kept (answered c store a) = Meets kept c store a
-  MeetsIn kept (cleared store a) = length (store .octets) ≡ storeSize → a ≡ record { refusal = 0; store = handset.cleared }
+  MeetsIn kept (cleared store a) = Clears store a
 
   -- each call of a list, by what the calls before it have left
   unfoldable pub Repeats : Option Kept → List Handled → Type 0
@@ -122,13 +129,13 @@ module _ (w : ℕ) (family : Family) where
     -- after an acceptance, whatever calls follow that are not accepted and do not clear the store, its RAND shows the same again
     pub shown-again : (kept : Option Kept) (c d : Challenge) (store later : Store) (a b : HandsetAnswer) (between rest : List Handled)
         → Repeats kept (answered c store a ∷ (between ++ (answered d later b ∷ rest)))
-        → a .outcome ≡ accepted → Each NothingNew between → Each NotCleared between → d .rand ≡ c .rand → Named d later
+        → a .outcome ≡ accepted → Each NotAccepted between → Each NotCleared between → d .rand ≡ c .rand → Named d later
         → b ≡ repetition (a .shown) d later
     -- 'unheld, no RAND matches': a store once cleared repeats nothing before the next acceptance
     pub nothing-shown : (kept : Option Kept) (d : Challenge) (store later : Store) (a : Written) (b : HandsetAnswer)
         (between rest : List Handled)
         → Repeats kept (cleared store a ∷ (between ++ (answered d later b ∷ rest)))
-        → a .refusal ≡ 0 → Each NothingNew between → b .outcome ≡ repeated → ⊥
+        → a .refusal ≡ 0 → Each NotAccepted between → b .outcome ≡ repeated → ⊥
 
   -- ---- the list of calls on one store
 

@@ -19,7 +19,7 @@ pub enum Outcome {
 }
 
 // Where the answer lies that is shown.
-pub enum Source {
+enum Source {
     Stored,
     Fresh,
     Nowhere,
