@@ -1,13 +1,14 @@
 -- `lengths_right` tests three lengths. Assumes nothing.
 use borrow.Author.Tests.{ne-eqb}
+use Rattle.aka.specs.Layout.{randSize, storeSize}
 use Rattle.handset_store.proofs.lengths_right.Statement.{statement}
 use Rattle.handset_store.proofs.lengths_right.Tie as tie
 
 returns : tie.Need-returns
-returns c = rw (ne-eqb (c .before .args .stored) 56 (c .if1 .taken))
+returns c = rw (ne-eqb (c .before .args .stored) storeSize (c .if1 .taken))
 
 returns-2 : tie.Need-returns-2
-returns-2 c = rw (c .before .if1 .left, ne-eqb (c .before .before .args .rand) 16 (c .if2 .taken))
+returns-2 c = rw (c .before .if1 .left, ne-eqb (c .before .before .args .rand) randSize (c .if2 .taken))
 
 returns-3 : tie.Need-returns-3
 returns-3 c = rw (c .before .if1 .left, c .if2 .left)
