@@ -46,10 +46,14 @@ fresh-at : (c : tie.After-enum-told2) → from (entry (c .before .before)) ≡ i
 fresh-at c = found (c .before .before) _ (c .enum-told2 .given .1)
 
 part-result-end : tie.Need-part-result-end
-part-result-end c = omega (arith, sizes (entry (c .before .before)) inStored (λ e. zero-not-one (cc)) (stored-at c) .0)
+part-result-end c =
+    let known = sizes (entry (c .before .before)) inStored (λ e. zero-not-one (cc)) (stored-at c) in
+    omega (arith, known .0, known .2)
 
 part-result-end-2 : tie.Need-part-result-end-2
-part-result-end-2 c = omega (arith, sizes (entry (c .before .before)) inFresh (λ e. zero-not-one (cc)) (fresh-at c) .2)
+part-result-end-2 c =
+    let known = sizes (entry (c .before .before)) inFresh (λ e. zero-not-one (cc)) (fresh-at c) in
+    omega (arith, known .0, known .2)
 
 returns : tie.Need-returns
 returns c =
