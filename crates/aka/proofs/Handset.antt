@@ -58,9 +58,6 @@ module _ (rand answer : Octets) (hr : length rand ≡ randSize) where
   pub held-answer : length answer ≡ answerSize → answerIn (holding rand answer) ≡ answer
   held-answer ha = past rand answer randSize 0 answerSize hr ∙ whole answer answerSize ha
 
-  pub held-size : length answer ≡ answerSize → length (holding rand answer .octets) ≡ storeSize
-  held-size ha = simp length-append (omega arith)
-
 -- ---- the answer to a challenge
 
 pub no-repeat : (v : card.Verdict) → handedOn v ≡ repeated → ⊥

@@ -3,7 +3,7 @@
 use Prim.Native.Nat.{ℕ}
 use mathlib.Core.Bool.{Bool, true, false, _&&_, cond, true≢false}
 use mathlib.Core.List.{List, [], _∷_, _++_}
-use mathlib.Core.Option.{Option, none, some}
+use mathlib.Core.Option.{Option, none, some, Option·some-injective}
 use mathlib.Core.Path.{_≡_, refl, sym, ap, _∙_, subst}
 use borrow.Author.Tests.{ne-eqb}
 use lib.Dec.{eqb}
@@ -24,13 +24,6 @@ use Rattle.aka.specs.RepeatedChallenge.{NotAccepted, NotCleared, InWords
 use Rattle.aka.proofs.Handset as known
 use Rattle.aka.proofs.HandsetLaws.{fits, named, handset-promise}
 
-some-rand : {a b : Kept} → some a ≡ some b → a ≡ b
-some-rand {a} {b} e = ap (λ (o : Option Kept). from o) e
-  where
-    from : Option Kept → Kept
-    from none = a
-    from (some k) = k
-
 -- ---- one challenge, where what is kept is what the store holds
 
 module _ (w : ℕ) (family : Family) (c : Challenge) (store : Store) where
@@ -48,7 +41,7 @@ module _ (w : ℕ) (family : Family) (c : Challenge) (store : Store) where
       go : (b : Bool) → store .held ≡ b → cond b (some inStore) none ≡ some (record { rand = c .rand; answer = kept })
           → (repeats store (c .rand) ≡ true) × (answerIn store ≡ kept)
       go true h q =
-          let same = some-rand q in
+          let same = Option·some-injective _ _ q in
           (rw (h, ap (λ (k : Kept). k .rand) same) (equal-self (c .rand)), ap (λ (k : Kept). k .answer) same)
       go false h q = zero-not-one (cc)
 
