@@ -62,3 +62,11 @@ void peer_last(uint8_t *vector)
     memcpy(vector + 40, last.ik, 16);
     memcpy(vector + 56, last.autn, 16);
 }
+
+/* The same vector as a triplet, RAND, SRES, Kc. Only osmo_auth_gen_vec and osmo_auth_gen_vec_auts derive the latter two. */
+void peer_triplet(uint8_t *triplet)
+{
+    memcpy(triplet, last.rand, 16);
+    memcpy(triplet + 16, last.sres, 4);
+    memcpy(triplet + 20, last.kc, 8);
+}

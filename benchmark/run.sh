@@ -2,8 +2,9 @@
 # The proved library's speed, in one run: bash benchmark/run.sh [ROUNDS]
 #
 # It builds the library, the second program (opt-level 3) and, where Debian's libosmocore-dev is installed, a shim for libosmogsm (-O3);
-# checks that all of them give the same bytes for the same keys, RANDs and SQN; then times them in turn, round by round, and prints
-# medians and ratios. Ratios hold from one machine to another better than times; nothing else should run beside it.
+# checks that all of them give the same bytes for the same keys, RANDs and SQN, the GSM keys of 10,000 vectors among them; then times them
+# in turn, round by round, and prints medians and ratios. Ratios hold from one machine to another better than times; nothing else should
+# run beside it.
 #
 # A call of the library reads an image, checks all that it is lent, and writes the image. The second program is timed on its records, which
 # costs it no image, and with its own images. libosmogsm keeps a record in memory; osmo_auth_gen_vec, its public function, also derives the

@@ -65,6 +65,8 @@ extern "C" {
 #define VETRHOSS_CK_SIZE 16
 #define VETRHOSS_IK_SIZE 16
 #define VETRHOSS_AUTS_SIZE 14
+#define VETRHOSS_SRES_SIZE 4
+#define VETRHOSS_KC_SIZE 8
 #define VETRHOSS_USIM_IMAGE_SIZE 205
 #define VETRHOSS_AUC_IMAGE_SIZE 41
 
@@ -76,6 +78,11 @@ extern "C" {
 #define VETRHOSS_IK_OFFSET 40
 #define VETRHOSS_AUTN_OFFSET 56
 #define VETRHOSS_LARGEST_BATCH 5
+
+/* A triplet, for GSM phones, and where its parts begin; RAND begins where it does in a vector. */
+#define VETRHOSS_TRIPLET_SIZE 28
+#define VETRHOSS_SRES_OFFSET 16
+#define VETRHOSS_KC_OFFSET 20
 
 /*
  * OPc of a subscriber: OP xor E(OP) under K.
@@ -139,6 +146,14 @@ uint64_t vetrhoss_resynchronise(uint8_t *image, size_t image_size, uint64_t coun
  * Refusals: 3 a batch of another size, or k past it.
  */
 uint64_t vetrhoss_vector_at(const uint8_t *batch, size_t batch_size, uint64_t k);
+
+/*
+ * The triplets of a batch, one for each vector and in their order: RAND as it is, SRES of XRES and Kc of CK and IK (TS 33.102 clause
+ * 6.8.1.2, the conversions c2 and c3).
+ * batch: 72 to 360 octets, a multiple of 72, read; n is the number of its vectors. triplets: 28 n, written.
+ * Refusals: 3.
+ */
+uint64_t vetrhoss_triplets(const uint8_t *batch, size_t batch_size, uint8_t *triplets, size_t triplets_size);
 
 #ifdef __cplusplus
 }

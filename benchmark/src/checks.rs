@@ -1,8 +1,10 @@
 //! Everybody gives the same bytes, or nothing is timed.
 
 use reference::auc::Auc;
-use reference::milenage;
-use reference::vector::{Vector, LENGTH};
+use reference::functions::Subscriber;
+use reference::random::Random;
+use reference::vector::{Vector, LENGTH, MOST};
+use reference::{milenage, triplet};
 
 use crate::load::Load;
 use crate::ours;
@@ -14,6 +16,7 @@ pub fn check(load: &Load, peer: Option<Peer>) {
     challenges(load, &vectors);
     let k = &load.auc.subscriber.k;
     assert_eq!(ours::opc(k, &load.op), milenage::opc(k, &load.op));
+    triplets(load, peer);
     if let Some(peer) = peer {
         peer_vectors(load, peer, &vectors);
         peer_resynchronisation(load, peer);
@@ -65,4 +68,24 @@ fn peer_resynchronisation(load: &Load, peer: Peer) {
     peer.set_up(&load.auc);
     peer.resynchronise(&failure.rand, &failure.auts, fresh);
     assert_eq!(peer.last(), given);
+}
+
+/// SRES and Kc depend on keys and RAND alone, so each batch has keys of its own.
+fn triplets(load: &Load, peer: Option<Peer>) {
+    let mut random = Random::new(33_102);
+    for rands in load.rands.chunks(MOST) {
+        let (k, opc) = (random.bytes(), random.bytes());
+        let auc = Auc::new(Subscriber { set: 1, k, opc }, random.bytes());
+        let (batch, triplets) = ours::triplets(&auc, &rands.concat());
+        let mut second = vec![0; triplets.len()];
+        triplet::convert(&batch, &mut second).expect("triplets");
+        assert_eq!(triplets, second);
+        if let Some(peer) = peer {
+            peer.set_up(&auc);
+            for (rand, triplet) in rands.iter().zip(triplets.chunks(triplet::LENGTH)) {
+                peer.vector(rand);
+                assert_eq!(peer.triplet(), triplet);
+            }
+        }
+    }
 }

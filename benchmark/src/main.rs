@@ -22,7 +22,7 @@ fn main() {
     let peer = arguments.get(1).map(|file| Peer::load(file));
     let load = Load::new();
     checks::check(&load, peer);
-    println!("set 1 (MILENAGE), the same keys and RANDs for all; checked: all give the same vectors, keys and OPc");
+    println!("set 1 (MILENAGE), the same keys and RANDs for all; checked: all give the same vectors, triplets, keys and OPc");
 
     let mut measures = work::measures(&load, peer);
     for measure in &mut measures {

@@ -1,9 +1,10 @@
 //! The proved library's calls, each of which has to be done.
 
+use reference::auc::Auc;
 use reference::vector::{Bytes, Vector};
 use reference::{auc_image, image};
 use vetrhoss::{AnswerBuffers, SeqHe, AUTS_SIZE, CK_SIZE, IK_SIZE, OPC_SIZE, RAND_SIZE};
-use vetrhoss::{RES_SIZE, VECTOR_SIZE};
+use vetrhoss::{RES_SIZE, TRIPLET_SIZE, VECTOR_SIZE};
 
 use crate::load::{Failure, Load};
 
@@ -59,4 +60,14 @@ pub fn vectors(load: &Load) -> Vec<Vector> {
         Vector::of(&vector)
     });
     vectors.collect()
+}
+
+/// A batch of a centre, and its triplets.
+pub fn triplets(auc: &Auc, rands: &[u8]) -> (Vec<u8>, Vec<u8>) {
+    let n = rands.len() / RAND_SIZE;
+    let mut image = auc_image::image(auc).expect("a valid record");
+    let (mut batch, mut triplets) = (vec![0; VECTOR_SIZE * n], vec![0; TRIPLET_SIZE * n]);
+    order(&mut image, rands, &mut batch);
+    vetrhoss::triplets(&batch, &mut triplets).expect("triplets");
+    (batch, triplets)
 }

@@ -3,6 +3,7 @@
 use std::ffi::{c_char, c_int, c_void, CString};
 
 use reference::auc::Auc;
+use reference::triplet;
 use reference::vector::{Bytes, LENGTH};
 
 const RTLD_NOW: c_int = 2;
@@ -25,6 +26,7 @@ pub struct Peer {
     generate: Vector,
     resynchronise: Resynchronise,
     last: Last,
+    triplet: Last,
 }
 
 fn c_string(text: &str) -> CString {
@@ -50,6 +52,7 @@ impl Peer {
                     "peer_resynchronise",
                 )),
                 last: std::mem::transmute::<*mut c_void, Last>(find("peer_last")),
+                triplet: std::mem::transmute::<*mut c_void, Last>(find("peer_triplet")),
             }
         }
     }
@@ -85,5 +88,12 @@ impl Peer {
         let mut vector = [0; LENGTH];
         (self.last)(vector.as_mut_ptr());
         vector
+    }
+
+    /// The last vector's triplet, where `vector` made it.
+    pub fn triplet(&self) -> triplet::Bytes {
+        let mut triplet = [0; triplet::LENGTH];
+        (self.triplet)(triplet.as_mut_ptr());
+        triplet
     }
 }

@@ -74,4 +74,11 @@ extern "C" {
     ) -> u64;
 
     pub fn vetrhoss_vector_at(batch: *const u8, batch_size: usize, k: u64) -> u64;
+
+    pub fn vetrhoss_triplets(
+        batch: *const u8,
+        batch_size: usize,
+        triplets: *mut u8,
+        triplets_size: usize,
+    ) -> u64;
 }

@@ -31,6 +31,8 @@ pub const RES_SIZE: usize = 8;
 pub const CK_SIZE: usize = 16;
 pub const IK_SIZE: usize = 16;
 pub const AUTS_SIZE: usize = 14;
+pub const SRES_SIZE: usize = 4;
+pub const KC_SIZE: usize = 8;
 pub const USIM_IMAGE_SIZE: usize = 205;
 pub const AUC_IMAGE_SIZE: usize = 41;
 
@@ -43,3 +45,9 @@ pub const CK_OFFSET: usize = 24;
 pub const IK_OFFSET: usize = 40;
 pub const AUTN_OFFSET: usize = 56;
 pub const LARGEST_BATCH: usize = 5;
+
+/// A triplet, for GSM phones, and where its parts begin; RAND begins where it
+/// does in a vector.
+pub const TRIPLET_SIZE: usize = 28;
+pub const SRES_OFFSET: usize = 16;
+pub const KC_OFFSET: usize = 20;

@@ -177,3 +177,15 @@ pub fn vector_at(batch: &[u8], k: u64) -> Result<usize, Error> {
     let offset = value(unsafe { c::vetrhoss_vector_at(batch.as_ptr(), batch.len(), k) })?;
     Ok(offset as usize)
 }
+
+/// The triplets of a batch, one for each vector and in their order.
+pub fn triplets(batch: &[u8], triplets: &mut [u8]) -> Result<(), Error> {
+    no_value(unsafe {
+        c::vetrhoss_triplets(
+            batch.as_ptr(),
+            batch.len(),
+            triplets.as_mut_ptr(),
+            triplets.len(),
+        )
+    })
+}

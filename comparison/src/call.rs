@@ -27,9 +27,10 @@ pub enum Function {
     Order,
     Resynchronise,
     VectorAt,
+    Triplets,
 }
 
-pub const ALL: [Function; 7] = [
+pub const ALL: [Function; 8] = [
     Function::Opc,
     Function::NewUsim,
     Function::NewAuc,
@@ -37,6 +38,7 @@ pub const ALL: [Function; 7] = [
     Function::Order,
     Function::Resynchronise,
     Function::VectorAt,
+    Function::Triplets,
 ];
 
 /// The buffers stand in the order of the header, and hold what they hold before

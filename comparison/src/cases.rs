@@ -6,8 +6,8 @@ use reference::functions::Subscriber;
 use reference::random::Random;
 use reference::usim::{sqn, sqn_bytes, Card, D, PLACES, SEQ_LIMIT};
 use reference::vector::{LENGTH, MOST};
-use reference::{auc_image, image};
-use vetrhoss::{AUTS_SIZE, CK_SIZE, IK_SIZE, OPC_SIZE, RES_SIZE, VECTOR_SIZE};
+use reference::{auc_image, image, triplet};
+use vetrhoss::{AUTS_SIZE, CK_SIZE, IK_SIZE, OPC_SIZE, RAND_SIZE, RES_SIZE, VECTOR_SIZE};
 
 use crate::call::{Call, Function, ALL};
 use crate::compare::Comparison;
@@ -52,6 +52,7 @@ pub fn random_call(function: Function, random: &mut Random) -> Call {
         Function::Order => order(random),
         Function::Resynchronise => resynchronise(random),
         Function::VectorAt => vector_at(random),
+        Function::Triplets => triplets(random),
     };
     while random.below(5) == 0 {
         spoil_size(&mut call, random);
@@ -283,4 +284,30 @@ fn vector_at(random: &mut Random) -> Call {
         place => place as u64 - 1,
     };
     call(Function::VectorAt, place, vec![filler(size, random)])
+}
+
+/// What a new centre of either set gives. Random RANDs are unlike.
+fn ordered(n: usize, random: &mut Random) -> Vec<u8> {
+    let mut batch = filler(LENGTH * n, random);
+    let auc = Auc::new(subscriber(random), random.bytes());
+    auc.order(n as u64, &filler(RAND_SIZE * n, random), &mut batch)
+        .expect("a batch");
+    batch
+}
+
+/// An order's batch or any bytes, now and then of too many vectors or of none;
+/// some buffers are right for another batch.
+fn triplets(random: &mut Random) -> Call {
+    let n = 1 + random.below(MOST);
+    let batch = match random.below(8) {
+        0 => filler(LENGTH * random.below(MOST + 3), random),
+        1..=3 => filler(LENGTH * n, random),
+        _ => ordered(n, random),
+    };
+    let lent = match random.below(8) {
+        0 => random.below(MOST + 3),
+        _ => batch.len() / LENGTH,
+    };
+    let buffers = vec![batch, filler(triplet::LENGTH * lent, random)];
+    call(Function::Triplets, 0, buffers)
 }

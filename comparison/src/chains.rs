@@ -5,6 +5,7 @@
 use reference::auc_image::{self, LENGTH as CENTRE};
 use reference::image::LENGTH as CARD;
 use reference::random::Random;
+use reference::triplet;
 use reference::usim::{D, SEQ_LIMIT};
 use reference::vector::{Bytes, Vector, LENGTH, MOST};
 use vetrhoss::{AMF_SIZE, DONE, K_SIZE, OPC_SIZE, OP_SIZE, RAND_SIZE, SYNCH_FAILURE};
@@ -118,6 +119,7 @@ impl<'a, 'b> Chain<'a, 'b> {
         }
         self.centre.clone_from(&outcome.buffers[0]);
         let batch = last(outcome);
+        self.triplets(&batch)?;
         let mut vectors = Vec::new();
         for k in 0..batch.len() / LENGTH {
             let found = self.call(Function::VectorAt, k as u64, vec![batch.clone()])?;
@@ -128,6 +130,16 @@ impl<'a, 'b> Chain<'a, 'b> {
             vectors.push(Vector::of(bytes));
         }
         Ok(vectors)
+    }
+
+    /// A batch that was given can be converted.
+    fn triplets(&mut self, batch: &[u8]) -> Result<(), String> {
+        let lent = filler(triplet::LENGTH * (batch.len() / LENGTH), self.random);
+        let outcome = self.call(Function::Triplets, 0, vec![batch.to_vec(), lent])?;
+        match outcome.answer.number {
+            DONE => Ok(()),
+            _ => Err(format!("no triplets but {:?}", outcome.answer)),
+        }
     }
 
     fn order(&mut self) -> Result<(), String> {

@@ -38,6 +38,10 @@ pub fn answer(function: Function, number: u64, lent: Vec<&mut [u8]>) -> Answer {
             let [batch] = named(lent);
             vetrhoss::vector_at(batch, number).map(|offset| offset as u64)
         }
+        Function::Triplets => {
+            let [batch, triplets] = named(lent);
+            vetrhoss::triplets(batch, triplets).map(|()| 0)
+        }
     };
     done.map_or_else(not_done, Answer::done)
 }

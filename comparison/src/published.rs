@@ -1,4 +1,5 @@
-//! The sets of TS 35.208: OPc, and the vector that the centre makes of each.
+//! The sets of TS 35.208: OPc, the vector that the centre makes of each, and its
+//! triplet.
 
 use reference::auc::Auc;
 use reference::auc_image;
@@ -9,6 +10,7 @@ use reference::random::Random;
 use reference::text::read_hex;
 use reference::usim::{ind, seq, sqn_of_bytes};
 use reference::vector::LENGTH;
+use vetrhoss::TRIPLET_SIZE;
 
 use crate::call::{Call, Function};
 use crate::compare::Comparison;
@@ -21,6 +23,7 @@ pub fn compare(comparison: &mut Comparison, _: &mut Random) -> Result<(), String
     for set in published::milenage() {
         opc(comparison, &set)?;
         vector(comparison, &set)?;
+        triplet(comparison, &set)?;
     }
     Ok(())
 }
@@ -84,4 +87,29 @@ fn published_vector(set: &MilenageVector) -> Vec<u8> {
     vector.extend(hex::<2>(set.amf));
     vector.extend(hex::<8>(set.f1));
     vector
+}
+
+fn triplet(comparison: &mut Comparison, set: &MilenageVector) -> Result<(), String> {
+    let call = Call {
+        function: Function::Triplets,
+        number: 0,
+        buffers: vec![published_vector(set), vec![0; TRIPLET_SIZE]],
+    };
+    gives(comparison, &call, &published_triplet(set))
+}
+
+/// RAND, and SRES and Kc from f2, f3 and f4 taken as numbers: the xor of their
+/// halves.
+fn published_triplet(set: &MilenageVector) -> Vec<u8> {
+    let halves = |digits| {
+        let key = u128::from_be_bytes(hex(digits));
+        (key >> 64) as u64 ^ key as u64
+    };
+    let f2 = u64::from_be_bytes(hex(set.f2));
+    let sres = (f2 >> 32) as u32 ^ f2 as u32;
+    let kc = halves(set.f3) ^ halves(set.f4);
+    let mut triplet = hex::<16>(set.rand).to_vec();
+    triplet.extend(sres.to_be_bytes());
+    triplet.extend(kc.to_be_bytes());
+    triplet
 }

@@ -4,7 +4,7 @@ use reference::auc::{Auc, Refused, Start};
 use reference::functions::Subscriber;
 use reference::usim::{Card, Refusal, Verdict, BAD_LENGTH, BAD_RECORD};
 use reference::vector::handed_back;
-use reference::{auc_image, image, milenage};
+use reference::{auc_image, image, milenage, triplet};
 use vetrhoss::{KEPT, MAC_FAILURE, RESET, SYNCH_FAILURE};
 
 use crate::call::{named, Answer, Function};
@@ -18,6 +18,7 @@ pub fn answer(function: Function, number: u64, lent: Vec<&mut [u8]>) -> Answer {
         Function::Order => order(number, named(lent)),
         Function::Resynchronise => resynchronise(number, named(lent)),
         Function::VectorAt => vector_at(number, named(lent)),
+        Function::Triplets => triplets(named(lent)),
     };
     answered.unwrap_or_else(refused)
 }
@@ -117,4 +118,9 @@ fn vector_at(k: u64, [batch]: [&mut [u8]; 1]) -> Result<Answer, Refused> {
     Ok(Answer::done(
         (vector.as_ptr() as usize - batch.as_ptr() as usize) as u64,
     ))
+}
+
+fn triplets([batch, triplets]: [&mut [u8]; 2]) -> Result<Answer, Refused> {
+    triplet::convert(batch, triplets)?;
+    Ok(Answer::done(0))
 }

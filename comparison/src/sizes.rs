@@ -1,7 +1,8 @@
-//! Every buffer of every function with each wrong size, all else being right.
+//! Every buffer of every function with each wrong size, all else being right;
+//! and every batch's size beside the sizes of triplets.
 
 use reference::random::Random;
-use vetrhoss::VECTOR_SIZE;
+use vetrhoss::{LARGEST_BATCH, TRIPLET_SIZE, VECTOR_SIZE};
 
 use crate::call::{is_refusal, Call, Function, ALL};
 use crate::cases::{filler, random_call};
@@ -9,6 +10,14 @@ use crate::compare::Comparison;
 
 /// A wrong size is noticed however the rest of the call looks.
 const CALLS: usize = 3;
+
+/// One byte more than a vector too many.
+const LONGEST_BATCH: usize = (LARGEST_BATCH + 1) * VECTOR_SIZE + 1;
+
+/// The triplets of 0 to 6 vectors, a byte less and a byte more; and far too many.
+const FOR_TRIPLETS: [usize; 21] = [
+    0, 1, 27, 28, 29, 55, 56, 57, 83, 84, 85, 111, 112, 113, 139, 140, 141, 167, 168, 169, 512,
+];
 
 pub fn compare(comparison: &mut Comparison, random: &mut Random) -> Result<(), String> {
     for function in ALL {
@@ -19,7 +28,7 @@ pub fn compare(comparison: &mut Comparison, random: &mut Random) -> Result<(), S
             }
         }
     }
-    Ok(())
+    triplets_of_each_batch(comparison, random)
 }
 
 /// A call that is not refused.
@@ -57,4 +66,28 @@ fn each_size(
         }
     }
     Ok(())
+}
+
+/// Which size is right for the triplets goes with that of the batch.
+fn triplets_of_each_batch(comparison: &mut Comparison, random: &mut Random) -> Result<(), String> {
+    for batch in 0..=LONGEST_BATCH {
+        for lent in FOR_TRIPLETS {
+            let call = Call {
+                function: Function::Triplets,
+                number: 0,
+                buffers: vec![filler(batch, random), filler(lent, random)],
+            };
+            let taken = !is_refusal(comparison.call(&call)?.answer);
+            if taken != fit(batch, lent) {
+                return Err(format!(
+                    "a batch of {batch} bytes and {lent} for its triplets: taken is {taken}"
+                ));
+            }
+        }
+    }
+    Ok(())
+}
+
+fn fit(batch: usize, triplets: usize) -> bool {
+    (1..=LARGEST_BATCH).any(|n| batch == VECTOR_SIZE * n && triplets == TRIPLET_SIZE * n)
 }

@@ -61,7 +61,7 @@ fn kind(function: Function, answer: Answer) -> Kind {
 /// Every answer that a function can give.
 fn kinds(function: Function) -> &'static [Kind] {
     match function {
-        Function::Opc | Function::VectorAt => &[(0, ""), (3, "")],
+        Function::Opc | Function::VectorAt | Function::Triplets => &[(0, ""), (3, "")],
         Function::NewUsim | Function::NewAuc => &[(0, ""), (1, ""), (3, "")],
         Function::Challenge => &[(0, ""), (1, ""), (3, ""), (20, ""), (21, "")],
         Function::Order => &[(0, ""), (1, ""), (2, ""), (3, ""), (4, ""), (6, "")],

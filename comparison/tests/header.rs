@@ -26,8 +26,9 @@ fn the_bindings_have_its_numbers() {
         DONE BAD_IMAGE BAD_COUNT BAD_SIZE EQUAL_RANDS BAD_MAC_S PAST_LIMIT MAC_FAILURE SYNCH_FAILURE
         KEPT RESET TEST_SET MILENAGE
         K_SIZE OP_SIZE OPC_SIZE AMF_SIZE RAND_SIZE AUTN_SIZE RES_SIZE CK_SIZE IK_SIZE AUTS_SIZE
-        USIM_IMAGE_SIZE AUC_IMAGE_SIZE VECTOR_SIZE
+        SRES_SIZE KC_SIZE USIM_IMAGE_SIZE AUC_IMAGE_SIZE VECTOR_SIZE
         RAND_OFFSET XRES_OFFSET CK_OFFSET IK_OFFSET AUTN_OFFSET LARGEST_BATCH
+        TRIPLET_SIZE SRES_OFFSET KC_OFFSET
     ];
     assert_eq!(numbers, numbers_of_the_header());
 }
@@ -53,4 +54,8 @@ fn refusals_are_errors() {
     assert_eq!(pair.number(), EQUAL_RANDS);
     assert_eq!(vector_at(&batch, 3), Err(Error::BadSize));
     assert_eq!(vector_at(&batch, 2), Ok(2 * VECTOR_SIZE));
+    let mut lent = [0; 3 * TRIPLET_SIZE];
+    let short = triplets(&batch, &mut lent[..2 * TRIPLET_SIZE]);
+    assert_eq!(short, Err(Error::BadSize));
+    assert_eq!(triplets(&batch, &mut lent), Ok(()));
 }

@@ -6,7 +6,8 @@ use comparison::compare::Comparison;
 use comparison::tally::Tally;
 use comparison::{cases, chains, second, sizes};
 use reference::random::Random;
-use vetrhoss::{DONE, LARGEST_BATCH, MAC_FAILURE, SYNCH_FAILURE, VECTOR_SIZE};
+use vetrhoss::{BAD_SIZE, DONE, LARGEST_BATCH, MAC_FAILURE, SYNCH_FAILURE};
+use vetrhoss::{SRES_OFFSET, SRES_SIZE, TRIPLET_SIZE, VECTOR_SIZE, XRES_OFFSET};
 
 /// Spoils an answer or the buffers after the call.
 type Fault = fn(Function, &mut Answer, &mut [&mut [u8]]);
@@ -107,6 +108,53 @@ fn keys_left_at_a_synchronisation_failure() {
             lent[4].fill(0xaa);
         }
     }));
+}
+
+#[test]
+fn the_last_triplet_of_five() {
+    assert!(is_noticed(|function, answer, lent| {
+        if function == Function::Triplets
+            && answer.number == DONE
+            && lent[1].len() == LARGEST_BATCH * TRIPLET_SIZE
+        {
+            lent[1][LARGEST_BATCH * TRIPLET_SIZE - 1] ^= 1;
+        }
+    }));
+}
+
+#[test]
+fn an_sres_of_half_of_xres() {
+    assert!(is_noticed(|function, answer, lent| {
+        if function == Function::Triplets && answer.number == DONE {
+            let half = lent[0][XRES_OFFSET..][..SRES_SIZE].to_vec();
+            lent[1][SRES_OFFSET..][..SRES_SIZE].copy_from_slice(&half);
+        }
+    }));
+}
+
+#[test]
+fn triplets_touched_on_refusal() {
+    assert!(is_noticed(|function, answer, lent| {
+        if function == Function::Triplets && answer.number == BAD_SIZE {
+            if let Some(byte) = lent[1].first_mut() {
+                *byte ^= 1;
+            }
+        }
+    }));
+}
+
+#[test]
+fn triplets_of_a_vector_too_many() {
+    let fault: Fault = |function, answer, lent| {
+        let six = LARGEST_BATCH + 1;
+        if function == Function::Triplets
+            && lent[0].len() == six * VECTOR_SIZE
+            && lent[1].len() == six * TRIPLET_SIZE
+        {
+            *answer = Answer::done(0);
+        }
+    };
+    assert!(compare(sizes::compare, fault).is_err());
 }
 
 #[test]

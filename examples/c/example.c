@@ -1,5 +1,6 @@
 /*
- * A card is issued, challenged, brought out of step and resynchronised. Build and run, from the repository's root:
+ * A card is issued, challenged, brought out of step and resynchronised; the vectors are made triplets too. Build and run, from the
+ * repository's root:
  *
  *     rt staticlib vetrhoss
  *     cc -std=c99 -Iinclude -o target/example examples/c/example.c target/staticlib/libvetrhoss.a && target/example
@@ -105,6 +106,17 @@ static void accepted_challenge(uint8_t *card, const uint8_t *vector)
     show("IK  ", answer.ik, sizeof answer.ik);
 }
 
+/* The same batch for a GSM phone. Of the triplets the first is shown. */
+static void convert(const uint8_t *batch)
+{
+    uint8_t triplets[VECTORS * VETRHOSS_TRIPLET_SIZE];
+    uint64_t result = vetrhoss_triplets(batch, VECTORS * VETRHOSS_VECTOR_SIZE, triplets, sizeof triplets);
+    expect_number(result, VETRHOSS_DONE, "the triplets");
+    expect(same(triplets + VETRHOSS_RAND_OFFSET, first_rand, sizeof first_rand), "RAND stays");
+    show("SRES", triplets + VETRHOSS_SRES_OFFSET, VETRHOSS_SRES_SIZE);
+    show("Kc  ", triplets + VETRHOSS_KC_OFFSET, VETRHOSS_KC_SIZE);
+}
+
 /* OPc from OP, and the two images that a new card begins with. */
 static void issue(uint8_t *card, uint8_t *centre)
 {
@@ -144,6 +156,9 @@ int main(void)
     make_rands(rands, VECTORS, 0);
     uint64_t result = vetrhoss_order(centre, sizeof centre, VECTORS, rands, sizeof rands, batch, sizeof batch);
     expect_number(result, VETRHOSS_DONE, "the order");
+
+    printf("the vectors are made triplets\n");
+    convert(batch);
 
     printf("the first vector is used\n");
     const uint8_t *first = vector_at(batch, sizeof batch, 0);

@@ -147,6 +147,33 @@ static void resynchronisations(void)
     expect("SEQ_HE behind", VETRHOSS_VALUE(result), VETRHOSS_RESET);
 }
 
+/* The triplets of a batch of two: the parts of the second one stand where the header says, and are of the second vector. */
+static void triplets(void)
+{
+    static const uint8_t two[2] = {1, 2};
+    uint8_t made[2 * VETRHOSS_TRIPLET_SIZE];
+    const size_t batch_size = 2 * VETRHOSS_VECTOR_SIZE;
+    new_centre();
+    expect_number("an order of 2", order(2, two, 2), VETRHOSS_DONE);
+    expect_number("a batch too short", vetrhoss_triplets(batch, batch_size - 1, made, sizeof made), VETRHOSS_BAD_SIZE);
+    expect_number("room for 1 of 2", vetrhoss_triplets(batch, batch_size, made, VETRHOSS_TRIPLET_SIZE), VETRHOSS_BAD_SIZE);
+    expect_number("room for 2", vetrhoss_triplets(batch, batch_size, made, sizeof made), VETRHOSS_DONE);
+
+    const uint8_t *vector = batch + VETRHOSS_VECTOR_SIZE;
+    const uint8_t *triplet = made + VETRHOSS_TRIPLET_SIZE;
+    const uint8_t *xres = vector + VETRHOSS_XRES_OFFSET;
+    const uint8_t *keys[2] = {vector + VETRHOSS_CK_OFFSET, vector + VETRHOSS_IK_OFFSET};
+    expect("RAND", (uint64_t)memcmp(triplet + VETRHOSS_RAND_OFFSET, vector + VETRHOSS_RAND_OFFSET, VETRHOSS_RAND_SIZE), 0);
+    for (size_t i = 0; i < VETRHOSS_SRES_SIZE; i++) {
+        expect("SRES", triplet[VETRHOSS_SRES_OFFSET + i], (uint8_t)(xres[i] ^ xres[i + VETRHOSS_SRES_SIZE]));
+    }
+    for (size_t i = 0; i < VETRHOSS_KC_SIZE; i++) {
+        const size_t other = i + VETRHOSS_KC_SIZE;
+        expect("Kc", triplet[VETRHOSS_KC_OFFSET + i], (uint8_t)(keys[0][i] ^ keys[0][other] ^ keys[1][i] ^ keys[1][other]));
+    }
+    expect("the end of a triplet", VETRHOSS_KC_OFFSET + VETRHOSS_KC_SIZE, VETRHOSS_TRIPLET_SIZE);
+}
+
 int main(void)
 {
     new_card();
@@ -155,6 +182,7 @@ int main(void)
     refusals();
     verdicts();
     resynchronisations();
+    triplets();
     printf("every number of the header is given where it says\n");
     return EXIT_SUCCESS;
 }

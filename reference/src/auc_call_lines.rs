@@ -90,6 +90,15 @@ pub fn auc_with(set: u8, seq_he: u64, next: u8, random: &mut Random) -> Auc {
     }
 }
 
+/// The batch that this record gives for these RANDs.
+pub fn batch_of(auc: &Auc, rands: &[u8]) -> Vec<u8> {
+    let n = rands.len() / 16;
+    let mut batch = vec![0; vector::LENGTH * n];
+    let given = auc.order(n as u64, rands, &mut batch);
+    given.expect("all that is lent is as named");
+    batch
+}
+
 /// The AUTS with which a card of this SQN_MS answers a stale challenge.
 pub fn auts(subscriber: &Subscriber, rand: &Block, seq_ms: u64, ind: usize) -> [u8; 14] {
     let mut card = Card::new(subscriber.clone());
@@ -143,4 +152,9 @@ pub fn card_new(subscriber: &Subscriber) -> Vec<u8> {
 
 pub fn vector_line(batch: &[u8], place: &str) -> Vec<u8> {
     [b"vector ", &write_bytes(batch)[..], b" ", place.as_bytes()].concat()
+}
+
+pub fn triplets_line(batch: &[u8], length: &str) -> Vec<u8> {
+    let batch = write_bytes(batch);
+    [b"triplets ", &batch[..], b" ", length.as_bytes()].concat()
 }

@@ -4,6 +4,7 @@ use crate::auc::{Auc, Refused, Start};
 use crate::auc_image;
 use crate::calls::{read_length, read_small, read_subscriber, write_image, write_refusal};
 use crate::text::{read_bytes, read_hex, read_number, write_bytes, write_hex, write_number};
+use crate::triplet;
 use crate::vector::{handed_back, LENGTH};
 
 /// None where the line is none of these words or of another form.
@@ -24,6 +25,7 @@ pub fn call(fields: &[&[u8]]) -> Option<Vec<u8>> {
             &Lent::read([count, rands, length])?,
         ),
         [b"vector", batch, place] => vector(&read_bytes(batch)?, read_number(place)?),
+        [b"triplets", batch, length] => triplets(&read_bytes(batch)?, read_length(length)?),
         _ => return None,
     };
     Some(printed.unwrap_or_else(write_refused))
@@ -89,6 +91,12 @@ fn resync(image: &[u8], failure: [&[u8]; 2], lent: &Lent) -> Result<Vec<u8>, Ref
 fn vector(batch: &[u8], place: u64) -> Result<Vec<u8>, Refused> {
     let vector = write_bytes(handed_back(batch, place));
     Ok([b"vector ", &vector[..]].concat())
+}
+
+fn triplets(batch: &[u8], length: usize) -> Result<Vec<u8>, Refused> {
+    let mut triplets = vec![0; length];
+    triplet::convert(batch, &mut triplets)?;
+    Ok([b"triplets ", &write_hex(&triplets)[..]].concat())
 }
 
 fn read_new(keys: [&[u8]; 3], amf: &[u8]) -> Option<Auc> {

@@ -109,7 +109,7 @@ pub fn other_fields(line: &[u8]) -> Vec<Vec<u8>> {
 }
 
 /// What no number is in each field.
-fn no_numbers(line: &[u8]) -> Vec<Vec<u8>> {
+pub fn no_numbers(line: &[u8]) -> Vec<Vec<u8>> {
     let fields: Vec<&[u8]> = line.split(|&b| b == b' ').collect();
     let mut lines = Vec::new();
     // Fields of hex are tried by the other damages.

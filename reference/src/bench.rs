@@ -3,6 +3,7 @@
 use crate::auc::{Auc, Refused, Start};
 use crate::block::Block;
 use crate::functions::Subscriber;
+use crate::place::Kind;
 use crate::text::{self, read_hex, read_number, write_hex, BAD_LINE};
 use crate::usim::{ind, seq, sqn_bytes, Card, Refusal, Verdict, BAD_RECORD};
 use crate::vector::LENGTH;
@@ -99,7 +100,7 @@ impl Desk {
         let n = rands.len();
         let mut batch = vec![0; LENGTH * n];
         self.auc = self.auc.order(n as u64, &rands.concat(), &mut batch)?;
-        self.node = self.node.store(n as u64, &batch)?.node;
+        self.node = self.node.store(Kind::Vector, n as u64, &batch)?.node;
         Ok(format!("stored {n} held {}", self.node.held))
     }
 
@@ -144,7 +145,7 @@ impl Desk {
             .auc
             .resync(n as u64, [&rand, &auts], &lent, &mut batch)?;
         self.auc = auc;
-        self.node = self.node.renew(n as u64, &batch)?.node;
+        self.node = self.node.renew(Kind::Vector, n as u64, &batch)?.node;
         let word = match start {
             Start::Kept => "kept",
             Start::Reset => "reset",

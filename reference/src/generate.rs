@@ -7,7 +7,7 @@ use crate::damage::{self, places, STRANGE};
 use crate::random::Random;
 use crate::{aes_vectors, bench, calls, function_vectors, published};
 use crate::{auc_form_lines, auc_image_lines, batch_lines, bench_lines, node_lines};
-use crate::{call_lines, challenge_lines, form_lines, handset_lines, image_lines};
+use crate::{call_lines, challenge_lines, form_lines, handset_lines, image_lines, triplet_lines};
 
 /// The size of the pieces in which a program may read its input. Lines are
 /// laid across the boundaries between such pieces on purpose.
@@ -185,13 +185,15 @@ fn calls_input(node_lines: NodeLines) -> Vec<u8> {
 }
 
 /// The lines for the centre, which come after those for the card. They have
-/// random numbers of their own, and so have those for the node and the handset.
+/// random numbers of their own, and so have those for triplets, the node and the
+/// handset.
 fn centre_lines() -> Vec<Vec<u8>> {
     let mut random = Random::new(33_103);
     let mut lines = batch_lines::published(&mut random);
     lines.extend(batch_lines::edges(&mut random));
     lines.extend(auc_image_lines::edges(&mut random));
     lines.extend(auc_form_lines::edges(&mut random));
+    lines.extend(triplet_lines::lines());
     lines
 }
 

@@ -1,242 +1,31 @@
 //! The lines for the node that `calls` keeps. Each meets the node that the lines
 //! before it left.
 
-use crate::calls;
-use crate::random::Random;
-use crate::text::{write_bytes, write_hex, write_number};
-use crate::vector::{Bytes, Vector, LENGTH};
+use crate::node_script::{
+    after_rand, answer, renew, response, store, sync, Script, Situation, SITUATIONS,
+};
+use crate::place::{Kind, KINDS};
 use crate::vlr::{Node, State, ROOM};
+use crate::{node_form_lines, node_record_lines, node_response_lines};
 
-const STATES: [State; 3] = [State::Idle, State::Asked, State::Resyncing];
-
-/// Lines that are no operation.
-const BAD_LINES: [&str; 77] = [
-    "ask ",
-    " ask",
-    "ask  ",
-    "Ask",
-    "ASK",
-    "as",
-    "asks",
-    "ask -",
-    "ask 0",
-    "ask\r",
-    "ask\0",
-    "\task",
-    "ask\t",
-    "again ",
-    "again -",
-    "agai",
-    "reject ",
-    "reject 1",
-    "timeout ",
-    "timeout -",
-    "time-out",
-    "abandon ",
-    "abandon -",
-    "abandoned",
-    "vlr-new ",
-    "vlr-new -",
-    "vlr-new 0",
-    "vlr_new",
-    "vlrnew",
-    "vlr",
-    "new",
-    "answer",
-    "answer ",
-    "answer  -",
-    "answer 0",
-    "answer 0g",
-    "answer 00 00",
-    "answer - ",
-    "answer -\r",
-    "Answer -",
-    "sync",
-    "sync ",
-    "sync 0",
-    "sync 0A",
-    "sync - -",
-    "sync  -",
-    "store",
-    "store ",
-    "store 1",
-    "store 1 ",
-    "store 1 0",
-    "store -",
-    "store - -",
-    "store 1 - -",
-    "store  1 -",
-    "store 1  -",
-    "store a -",
-    "store +1 -",
-    "store -1 -",
-    "store 1.0 -",
-    "store 0x1 -",
-    "store 18446744073709551616 -",
-    "store 000000000000000000001 -",
-    "renew",
-    "renew ",
-    "renew 1",
-    "renew 1 ",
-    "renew 1 0",
-    "renew -",
-    "renew - -",
-    "renew 1 - -",
-    "renew  1 -",
-    "renew 1  -",
-    "renew a -",
-    "renew 18446744073709551616 -",
-    "Renew 1 -",
-    "",
-];
-
-/// Lines and the node after them.
-struct Script {
-    node: Node,
-    random: Random,
-    lines: Vec<Vec<u8>>,
-}
-
-impl Script {
-    fn push(&mut self, line: &[u8]) {
-        calls::answer_with(&mut self.node, line);
-        self.lines.push(line.to_vec());
-    }
-
-    /// Puts this record in place of the node, unless it is there already.
-    fn set(&mut self, node: &Node) {
-        if self.node != *node {
-            self.push(&record_line(node));
-        }
-    }
-
-    /// Each line meets this same record.
-    fn each(&mut self, node: &Node, lines: &[Vec<u8>]) {
-        for line in lines {
-            self.set(node);
-            self.push(line);
-        }
-    }
-
-    fn vector(&mut self) -> Bytes {
-        Vector {
-            rand: self.random.bytes(),
-            xres: self.random.bytes(),
-            ck: self.random.bytes(),
-            ik: self.random.bytes(),
-            autn: self.random.bytes(),
-        }
-        .bytes()
-    }
-
-    fn batch(&mut self, n: usize) -> Vec<u8> {
-        let vectors: Vec<Bytes> = (0..n).map(|_| self.vector()).collect();
-        vectors.concat()
-    }
-
-    /// A valid node; in Asked it has an outstanding vector.
-    fn node(&mut self, state: State, held: usize) -> Node {
-        let mut node = Node::new();
-        node.state = state;
-        node.held = held as u8;
-        for place in 0..held {
-            node.places[place] = self.vector();
-        }
-        if state == State::Asked {
-            node.outstanding = self.vector();
-        }
-        node
-    }
-
-    /// Every operation as it should be, the answer right and wrong.
-    fn operations(&mut self, node: &Node) -> Vec<Vec<u8>> {
-        let xres = Vector::of(&node.outstanding).xres;
-        let mut wrong = xres;
-        wrong[self.random.below(8)] ^= 1 << self.random.below(8);
-        let n = 1 + self.random.below(5);
-        let batch = self.batch(n);
-        let auts: [u8; 14] = self.random.bytes();
-        let mut lines = words(&["ask", "again", "reject", "timeout", "abandon"]);
-        lines.extend([
-            store(n as u64, &batch),
-            renew(n as u64, &batch),
-            answer(&xres),
-            answer(&wrong),
-            sync(&auts),
-        ]);
-        lines
-    }
-
-    /// Operations with counts and lengths that are refused, some by two rules.
-    fn refused_parts(&mut self) -> Vec<Vec<u8>> {
-        let batch = self.batch(6);
-        let mut lines = Vec::new();
-        for (count, length) in [(0, 0), (0, 72), (1, 71), (2, 72), (6, 432), (6, 1)] {
-            lines.push(store(count, &batch[..length]));
-            lines.push(renew(count, &batch[..length]));
-        }
-        lines.push(answer(&batch[..7]));
-        lines.push(sync(&batch[..15]));
-        lines
-    }
-}
-
-fn words(words: &[&str]) -> Vec<Vec<u8>> {
-    words.iter().map(|word| word.as_bytes().to_vec()).collect()
-}
-
-fn with_batch(word: &[u8], count: u64, batch: &[u8]) -> Vec<u8> {
-    [word.to_vec(), write_number(count), write_bytes(batch)].join(&b' ')
-}
-
-fn store(count: u64, batch: &[u8]) -> Vec<u8> {
-    with_batch(b"store", count, batch)
-}
-
-fn renew(count: u64, batch: &[u8]) -> Vec<u8> {
-    with_batch(b"renew", count, batch)
-}
-
-fn answer(res: &[u8]) -> Vec<u8> {
-    [b"answer ", &write_bytes(res)[..]].concat()
-}
-
-fn sync(auts: &[u8]) -> Vec<u8> {
-    [b"sync ", &write_bytes(auts)[..]].concat()
-}
-
-/// The places are given up to the last one in use.
-fn record_line(node: &Node) -> Vec<u8> {
-    let used = node.places.iter().rposition(|place| *place != [0; LENGTH]);
-    let places = node.places[..used.map_or(0, |place| place + 1)].concat();
-    let state = STATES.iter().position(|state| *state == node.state);
-    let fields = [
-        b"vlr-record".to_vec(),
-        write_number(state.expect("one of the three") as u64),
-        write_number(node.held.into()),
-        write_hex(&node.outstanding),
-        write_bytes(&places),
-    ];
-    fields.join(&b' ')
-}
+use Kind::{Triplet, Vector};
 
 pub fn lines() -> Vec<Vec<u8>> {
-    let mut script = Script {
-        node: Node::new(),
-        random: Random::new(6_303),
-        lines: Vec::new(),
-    };
+    let mut script = Script::new();
     a_new_node(&mut script);
     every_operation(&mut script);
     no_room(&mut script);
+    renewed(&mut script);
     order_of_use(&mut script);
-    responses(&mut script);
+    kinds_in_turn(&mut script);
+    node_response_lines::lines(&mut script);
     lengths(&mut script);
+    lengths_in_other_states(&mut script);
     counts(&mut script);
     zeros(&mut script);
-    invalid_records(&mut script);
-    records(&mut script);
-    forms(&mut script);
+    node_record_lines::lines(&mut script);
+    node_form_lines::lines(&mut script);
+    stories(&mut script);
     walks(&mut script);
     script.lines
 }
@@ -250,160 +39,231 @@ fn a_new_node(script: &mut Script) {
     script.push(b"vlr-new");
 }
 
-/// In every state, with nothing, little and all held.
+/// In every situation, with nothing held, with a few of one kind and of both,
+/// and with all places in use.
 fn every_operation(script: &mut Script) {
-    for state in STATES {
-        for held in [0, 1, 2, 3] {
-            let node = script.node(state, held);
+    for situation in SITUATIONS {
+        for held in [
+            &[][..],
+            &[Vector],
+            &[Triplet],
+            &[Vector, Triplet],
+            &[Triplet, Vector, Triplet],
+        ] {
+            let node = script.node(situation, held);
+            let lines = script.operations(&node);
+            script.each(&node, &lines);
+        }
+        for held in [1, ROOM] {
+            let node = script.thin_node(situation, held);
             let lines = [script.operations(&node), script.refused_parts()].concat();
             script.each(&node, &lines);
         }
-        let full = script.node(state, ROOM);
-        let lines = script.operations(&full);
-        script.each(&full, &lines);
     }
 }
 
-/// Batches that fill the node and that are too many.
+/// Batches that fill the node, that are one too many, and that find it full.
 fn no_room(script: &mut Script) {
-    for held in 11..=ROOM {
-        let node = script.node(State::Idle, held);
-        for n in (1..=5).rev() {
-            let batch = script.batch(n);
-            script.set(&node);
-            if held + n >= ROOM || n == 1 {
-                script.push(&store(n as u64, &batch));
+    for situation in [
+        Situation::Idle,
+        Situation::Out(Vector),
+        Situation::Out(Triplet),
+    ] {
+        for kind in KINDS {
+            for n in 1..=5 {
+                if situation != Situation::Idle && n % 4 != 1 {
+                    continue;
+                }
+                let batch = script.batch(kind, n);
+                let node = script.thin_node(situation, ROOM + 1 - n);
+                script.set(&node);
+                script.push(&store(kind, n as u64, &batch));
+                let node = script.thin_node(situation, ROOM - n);
+                script.set(&node);
+                script.push(&store(kind, n as u64, &batch));
+                script.push(&store(kind, n as u64, &batch));
             }
         }
     }
-    for n in 1..=5 {
-        let batch = script.batch(n);
-        for held in [ROOM + 1 - n, ROOM - n] {
-            let node = script.node(State::Asked, held);
+}
+
+/// While the node waits, Store is refused, and Renew of either kind takes the
+/// place of all that was held, also in a full node.
+fn renewed(script: &mut Script) {
+    for kind in KINDS {
+        for n in 1..=5 {
+            let batch = script.batch(kind, n);
+            let node = match n {
+                3 => script.full_node(Situation::Resyncing),
+                _ => script.node(Situation::Resyncing, &[Triplet, Vector, Vector]),
+            };
             script.set(&node);
-            script.push(&store(n as u64, &batch));
+            script.push(&store(kind, n as u64, &batch));
+            script.push(&renew(kind, n as u64, &batch));
+            script.push(b"ask");
         }
-        // A full node in Resyncing takes a batch in place of all.
-        let node = script.node(State::Resyncing, ROOM);
-        script.set(&node);
-        script.push(&store(n as u64, &batch));
-        script.push(&renew(n as u64, &batch));
     }
 }
 
-/// A full node is used up, oldest first, and freed places are used again.
+/// A full node of both kinds is used up, oldest first, and freed places are
+/// used again.
 fn order_of_use(script: &mut Script) {
     script.push(b"vlr-new");
-    for n in [5, 5, 5, 1, 1] {
-        let batch = script.batch(n);
-        script.push(&store(n as u64, &batch));
+    for (kind, n) in [
+        (Vector, 5),
+        (Triplet, 5),
+        (Vector, 3),
+        (Triplet, 2),
+        (Vector, 1),
+        (Triplet, 1),
+        (Vector, 1),
+    ] {
+        let batch = script.given(kind, n);
+        script.push(&store(kind, n as u64, &batch));
     }
-    for turn in 0..ROOM + 3 {
+    for turn in 0..ROOM + 5 {
         script.push(b"ask");
-        let xres = Vector::of(&script.node.outstanding).xres;
-        script.push(&answer(&xres));
-        if turn == 12 {
-            let batch = script.batch(2);
-            script.push(&store(2, &batch));
+        let response = response(&script.node);
+        script.push(&answer(&response));
+        if turn == 10 || turn == 12 {
+            let kind = KINDS[turn / 12];
+            let batch = script.given(kind, 2);
+            script.push(&store(kind, 2, &batch));
         }
     }
 }
 
-/// A RES with each bit of one byte, and each byte, wrong; and an answer that is
-/// right for another part of the vector.
-fn responses(script: &mut Script) {
-    let node = script.node(State::Asked, 1);
-    let vector = Vector::of(&node.outstanding);
-    let mut lines = vec![answer(&vector.ck[..8]), answer(&vector.rand[..8])];
-    for bit in (0..64).filter(|bit| bit % 8 == 0 || *bit < 8 || *bit > 55) {
-        let mut res = vector.xres;
-        res[bit / 8] ^= 1 << (bit % 8);
-        lines.push(answer(&res));
+/// Single vectors and triplets in turn; some come while one is out.
+fn kinds_in_turn(script: &mut Script) {
+    for first in [0, 1] {
+        script.push(b"vlr-new");
+        for turn in 0..6 {
+            let kind = KINDS[(first + turn) % 2];
+            let batch = script.given(kind, 1);
+            script.push(&store(kind, 1, &batch));
+            if turn == 3 {
+                script.words(&["ask", "again"]);
+            }
+        }
+        for _ in 0..6 {
+            let response = response(&script.node);
+            script.push(&answer(&response));
+            script.words(&["ask", "again"]);
+        }
     }
-    script.each(&node, &lines);
 }
 
-/// RES, AUTS and batches of other lengths, in each state.
+/// Batches of the other kind's length, of whole places, and about the right
+/// length, for each count. They are refused, and leave the record.
 fn lengths(script: &mut Script) {
-    for state in STATES {
-        let node = script.node(state, 1);
-        let xres = Vector::of(&node.outstanding).xres;
-        let long = [&xres[..], &script.batch(6)].concat();
+    let bytes = script.batch(Vector, 6);
+    for (situation, line) in [
+        (Situation::Idle, store as fn(Kind, u64, &[u8]) -> Vec<u8>),
+        (Situation::Resyncing, renew),
+    ] {
+        let node = script.node(situation, &[Triplet]);
         let mut lines = Vec::new();
-        for length in [0, 1, 4, 7, 9, 16, 264] {
-            lines.push(answer(&long[..length]));
-        }
-        for length in [0, 1, 13, 14, 15, 16, 28, 270] {
-            lines.push(sync(&long[..length]));
-        }
-        for (count, length) in [
-            (1, 0),
-            (1, 1),
-            (1, 71),
-            (1, 73),
-            (1, 144),
-            (2, 143),
-            (5, 361),
-        ] {
-            lines.push(store(count, &long[..length]));
-            lines.push(renew(count, &long[..length]));
+        for kind in KINDS {
+            for n in 1..=5 {
+                let right = kind.length() * n;
+                for length in [28 * n, 72 * n, 73 * n, right - 1, right + 1] {
+                    if length != right {
+                        lines.push(line(kind, n as u64, &bytes[..length]));
+                    }
+                }
+            }
+            lines.push(line(kind, 1, &[]));
+            lines.push(line(kind, 1, &bytes[..1]));
+            lines.push(line(kind, 1, &bytes[..2 * kind.length()]));
+            lines.push(line(kind, 2, &bytes[..kind.length()]));
         }
         script.each(&node, &lines);
     }
 }
 
-/// Counts past 5, whose low bits or whose product with 72 may look right.
+/// A wrong length is told before a wrong state and before too little room.
+fn lengths_in_other_states(script: &mut Script) {
+    let bytes = script.batch(Vector, 2);
+    for situation in SITUATIONS {
+        let node = script.thin_node(situation, ROOM);
+        let mut lines = Vec::new();
+        for (kind, length) in [(Vector, 73), (Vector, 56), (Triplet, 29), (Triplet, 56)] {
+            lines.push(store(kind, 1, &bytes[..length]));
+            lines.push(renew(kind, 1, &bytes[..length]));
+        }
+        script.each(&node, &lines);
+    }
+}
+
+/// Counts past 5, whose low bits or whose product with an item's length may
+/// look right: 72 times 2^61 and 28 times 2^62 are nothing in 64 bits.
 fn counts(script: &mut Script) {
-    let batch = script.batch(7);
-    for state in STATES {
-        let node = script.node(state, 0);
+    let bytes = script.batch(Vector, 7);
+    for situation in SITUATIONS {
+        let node = script.node(situation, &[]);
         let mut lines = Vec::new();
-        for count in [
-            0,
-            6,
-            7,
-            255,
-            256,
-            257,
-            65_537,
-            (1 << 32) + 1,
-            1 << 61,
-            1 << 63,
-            u64::MAX,
-        ] {
-            let low = (count % 8) as usize;
-            for line in [store, renew] {
-                lines.push(line(count, &batch[..72 * low]));
-                lines.push(line(count, &[]));
+        for kind in KINDS {
+            for count in [
+                0,
+                6,
+                256,
+                257,
+                65_537,
+                (1 << 32) + 1,
+                (1 << 61) + 1,
+                (1 << 62) + 1,
+                1 << 63,
+                u64::MAX,
+            ] {
+                let low = (count % 8) as usize % 6;
+                for line in [store, renew] {
+                    lines.push(line(kind, count, &bytes[..kind.length() * low]));
+                }
             }
         }
-        for n in 1..=5 {
-            lines.push(store(n, &batch[..72 * n as usize]));
-            lines.push(renew(n, &batch[..72 * n as usize]));
+        // Six items, and eighteen triplets as long as seven vectors.
+        if matches!(situation, Situation::Idle | Situation::Resyncing) {
+            for (kind, count) in [(Vector, 6), (Triplet, 6), (Vector, 7), (Triplet, 18)] {
+                let length = kind.length() * count as usize;
+                lines.push(store(kind, count, &bytes[..length]));
+                lines.push(renew(kind, count, &bytes[..length]));
+            }
+            lines.push(store(Triplet, 7, &bytes));
+            lines.push(renew(Vector, 18, &bytes));
         }
         script.each(&node, &lines);
     }
 }
 
-/// Vectors of zeros, and vectors that end in zeros, are vectors.
+/// Vectors and triplets of zeros, or that end in zeros, are items too.
 fn zeros(script: &mut Script) {
-    let mut ends_in_zeros = script.vector();
-    ends_in_zeros[40..].fill(0);
-    for state in STATES {
-        let mut node = Node::new();
-        node.state = state;
-        for vector in [[0; LENGTH], ends_in_zeros] {
-            let batch = [[0; LENGTH], vector].concat();
+    let mut vector = script.item(Vector);
+    vector[40..].fill(0);
+    let mut rand_alone = script.item(Triplet);
+    rand_alone[16..].fill(0);
+    let mut kc_alone = script.item(Triplet);
+    kc_alone[..20].fill(0);
+    for (kind, item) in [
+        (Vector, vec![0; 72]),
+        (Vector, vector),
+        (Triplet, vec![0; 28]),
+        (Triplet, rand_alone),
+        (Triplet, kc_alone),
+    ] {
+        for situation in [Situation::Idle, Situation::Out(kind), Situation::Resyncing] {
+            let mut node = script.node(situation, &[]);
             node.held = 3;
-            node.places[2] = vector;
-            if state == State::Asked {
-                node.outstanding = vector;
+            node.places[2] = kind.place(&item);
+            if node.state == State::Asked {
+                node.outstanding = node.places[2];
             }
+            let batch = [vec![0; kind.length()], item.clone()].concat();
             let mut lines = script.operations(&node);
             lines.extend([
-                store(2, &batch),
-                renew(2, &batch),
+                store(kind, 2, &batch),
+                renew(kind, 2, &batch),
                 answer(&[0; 8]),
+                answer(&[0; 4]),
                 sync(&[0; 14]),
             ]);
             script.each(&node, &lines);
@@ -411,108 +271,35 @@ fn zeros(script: &mut Script) {
     }
 }
 
-/// Records to which refusal 1 applies, and their neighbours to which it does
-/// not, with every operation.
-fn invalid_records(script: &mut Script) {
-    for node in invalid(script) {
-        let lines = [script.operations(&node), script.refused_parts()].concat();
-        script.each(&node, &lines);
-    }
-}
-
-fn invalid(script: &mut Script) -> Vec<Node> {
-    let mut nodes = Vec::new();
-    for (turn, held) in [17, 18, 32, 128, 255].into_iter().enumerate() {
-        let mut node = script.node(STATES[turn % 3], turn % 3);
-        node.held = held;
-        nodes.push(node);
-    }
-    // One bit of one unused place; the places in use are few.
-    for (state, held, place) in [(0, 0, 0), (1, 0, 1), (2, 1, 1), (0, 1, 4), (1, 2, 15)] {
-        let mut node = script.node(STATES[state], held);
-        node.places[place][script.random.below(LENGTH)] = 1 << script.random.below(8);
-        nodes.push(node);
-    }
-    // An outstanding vector where there is none, down to its last bit.
-    for (state, byte, bits) in [(0, 0, 0x80), (2, 71, 1), (0, 35, 0xff), (2, 16, 2)] {
-        let mut node = script.node(STATES[state], 1);
-        node.outstanding[byte] = bits;
-        nodes.push(node);
-    }
-    let mut last = script.node(State::Idle, 0);
-    last.places[15][71] = 1;
-    nodes.push(last);
-    // In Asked an outstanding vector of zeros is one.
-    let mut asked = script.node(State::Asked, 1);
-    asked.outstanding = [0; LENGTH];
-    nodes.push(asked);
-    nodes
-}
-
-/// The fields of a `vlr-record` at their limits, each followed by an operation
-/// that shows whether the record is valid.
-fn records(script: &mut Script) {
-    for line in record_edges() {
-        script.push(line.as_bytes());
+/// A failure on a vector that triplets end, and what a triplet out does not
+/// take.
+fn stories(script: &mut Script) {
+    for kind in KINDS {
+        script.push(b"vlr-new");
+        let [first, next] = [script.given(Vector, 1), script.given(kind, 2)];
+        script.push(&store(Vector, 1, &first));
+        script.push(&store(kind, 2, &next));
         script.push(b"ask");
-        script.push(b"abandon");
-    }
-}
-
-fn record_edges() -> Vec<String> {
-    let out = "0".repeat(144);
-    let most = "5a".repeat(1_152);
-    vec![
-        format!("vlr-record 0 0 {out} -"),
-        format!("vlr-record 00 00 {out} 00"),
-        format!("vlr-record 0 16 {out} {most}"),
-        format!("vlr-record 0 15 {out} {most}"),
-        format!("vlr-record 0 16 {out} {most}5a"),
-        format!("vlr-record 0 1 {out} 5a"),
-        format!("vlr-record 0 1 {out} {}", "00".repeat(1_152)),
-        format!("vlr-record 0 1 {out} {}", "00".repeat(1_153)),
-        format!("vlr-record 0 1 {out} {}", "5a".repeat(73)),
-        format!("vlr-record 0 256 {out} -"),
-        format!("vlr-record 0 257 {out} -"),
-        format!("vlr-record 0 00000000000000000002 {out} 5a"),
-        format!("vlr-record 0 000000000000000000002 {out} 5a"),
-        format!("vlr-record 3 0 {out} -"),
-        format!("vlr-record 255 0 {out} -"),
-        format!("vlr-record 256 0 {out} -"),
-        format!("vlr-record 18446744073709551616 0 {out} -"),
-        format!("vlr-record 00000000000000000000 1 {out} 5b"),
-        format!("vlr-record - 0 {out} -"),
-        format!("vlr-record 0 - {out} -"),
-        "vlr-record 0 0 - -".to_string(),
-        format!("vlr-record 0 0 {out}00 -"),
-        format!("vlr-record 0 0 {} -", &out[2..]),
-        format!("vlr-record 0 0 {} -", &out[1..]),
-        format!("vlr-record 0 0 {out} 0"),
-        format!("vlr-record 0 0 {out} 0A"),
-        format!("vlr-record 0 0 {out}"),
-        format!("vlr-record 0 0 {out} "),
-        format!("vlr-record 0 0 {out} - -"),
-        format!("vlr-record  0 0 {out} -"),
-        format!("Vlr-record 0 0 {out} -"),
-        "vlr-record".to_string(),
-    ]
-}
-
-/// Bad lines between operations: the node stays as it was.
-fn forms(script: &mut Script) {
-    let node = script.node(State::Idle, 2);
-    script.set(&node);
-    for line in BAD_LINES {
-        script.push(line.as_bytes());
-        if script.random.below(8) == 0 {
-            script.push(b"ask");
-            script.push(b"abandon");
-            script.set(&node);
-        }
-    }
-    for byte in (0..=255).filter(|&byte| byte != b'\n') {
-        script.push(&[b"as", &[byte][..]].concat());
-        script.push(&[b"answer 0", &[byte][..]].concat());
+        script.push(&sync(&[0xa5; 14]));
+        script.push(&store(kind, 2, &next));
+        let triplets = script.given(Triplet, 3);
+        script.push(&renew(Triplet, 3, &triplets));
+        script.push(&renew(Triplet, 3, &triplets));
+        script.push(b"ask");
+        // The triplet stays out, and its response passes all the same.
+        script.push(&sync(&[0xa5; 14]));
+        script.words(&["timeout", "again"]);
+        script.push(&renew(kind, 2, &next));
+        let (sres, longer) = (
+            response(&script.node),
+            after_rand(&script.node)[..8].to_vec(),
+        );
+        script.push(&answer(&longer));
+        script.push(&answer(&sres));
+        // Nothing is out now: a response has the length of a vector's.
+        script.push(&answer(&sres));
+        script.push(&answer(&longer));
+        script.words(&["ask", "reject", "reject", "ask", "abandon", "again", "ask"]);
     }
 }
 
@@ -533,22 +320,23 @@ fn step(script: &mut Script) -> Vec<u8> {
         let lines = script.operations(&node);
         return lines[script.random.below(lines.len())].clone();
     }
+    let kind = script.random.one_of(&KINDS);
     let n = 1 + script.random.below(2);
     match node.state {
-        State::Idle if node.held < 2 => store(n as u64, &script.batch(n)),
+        State::Idle if node.held < 2 => store(kind, n as u64, &script.given(kind, n)),
         State::Idle => b"ask".to_vec(),
         State::Asked => match script.random.below(10) {
             0 => b"again".to_vec(),
             1 => b"reject".to_vec(),
             2 => b"abandon".to_vec(),
-            3 => store(n as u64, &script.batch(n)),
+            3 => store(kind, n as u64, &script.given(kind, n)),
             4 | 5 => sync(&script.random.bytes::<14>()),
-            6 => answer(&script.random.bytes::<8>()),
-            _ => answer(&Vector::of(&node.outstanding).xres),
+            6 => answer(&script.random.bytes::<8>()[..response(&node).len()]),
+            _ => answer(&response(&node)),
         },
         State::Resyncing => match script.random.below(3) {
             0 => b"timeout".to_vec(),
-            _ => renew(n as u64, &script.batch(n)),
+            _ => renew(kind, n as u64, &script.given(kind, n)),
         },
     }
 }

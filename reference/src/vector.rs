@@ -4,7 +4,7 @@ use crate::block::Block;
 
 pub const LENGTH: usize = 72;
 
-/// The bytes of a vector, or of a place that holds none.
+/// The bytes of a vector.
 pub type Bytes = [u8; LENGTH];
 
 /// The most vectors of a batch.

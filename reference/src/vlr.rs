@@ -3,17 +3,16 @@
 
 use crate::auc::BAD_COUNT;
 use crate::block::Block;
+use crate::place::{Item, Kind, Place, NONE};
 use crate::usim::{Refusal, BAD_LENGTH, BAD_RECORD};
-use crate::vector::{Bytes, Vector, LENGTH, MOST};
+use crate::vector::MOST;
 
 pub const WRONG_STATE: Refusal = Refusal(7);
 pub const NOTHING_HELD: Refusal = Refusal(8);
 pub const NO_ROOM: Refusal = Refusal(9);
 
-/// The most vectors that are held.
+/// The most vectors and triplets that are held together.
 pub const ROOM: usize = 16;
-
-const NONE: Bytes = [0; LENGTH];
 
 #[derive(Clone, Copy, Debug, PartialEq, Eq)]
 pub enum State {
@@ -26,10 +25,11 @@ pub enum State {
 pub struct Node {
     pub state: State,
     pub held: u8,
-    /// The vector that was asked, zero when there is none.
-    pub outstanding: Bytes,
-    /// The vectors held, oldest first; unused places are zero.
-    pub places: [Bytes; ROOM],
+    /// What was asked, zero when there is none.
+    pub outstanding: Place,
+    /// What is held, of both kinds in one queue, oldest first; unused places
+    /// are zero.
+    pub places: [Place; ROOM],
 }
 
 #[derive(Clone, Copy, Debug, PartialEq, Eq)]
@@ -48,6 +48,7 @@ pub struct Answer {
     pub auts: [u8; 14],
     pub ck: Block,
     pub ik: Block,
+    pub kc: [u8; 8],
     pub node: Node,
 }
 
@@ -60,6 +61,7 @@ impl Answer {
             auts: [0; 14],
             ck: [0; 16],
             ik: [0; 16],
+            kc: [0; 8],
             node,
         }
     }
@@ -77,18 +79,23 @@ impl Node {
 
     pub fn is_valid(&self) -> bool {
         let held = usize::from(self.held);
+        let holds_an_item = |place: &Place| Item::of(place).is_some();
         held <= ROOM
+            && self.places[..held].iter().all(holds_an_item)
             && self.places[held..].iter().all(|place| *place == NONE)
-            && (self.state == State::Asked || self.outstanding == NONE)
+            && match self.state {
+                State::Asked => holds_an_item(&self.outstanding),
+                State::Idle | State::Resyncing => self.outstanding == NONE,
+            }
     }
 
-    pub fn store(&self, count: u64, batch: &[u8]) -> Result<Answer, Refusal> {
-        let vectors = self.batch(count, batch)?;
+    pub fn store(&self, kind: Kind, count: u64, batch: &[u8]) -> Result<Answer, Refusal> {
+        let places = self.batch(kind, count, batch)?;
         if self.state == State::Resyncing {
             return Err(WRONG_STATE);
         }
-        let mut held = self.vectors();
-        held.extend(vectors);
+        let mut held = self.queue();
+        held.extend(places);
         if held.len() > ROOM {
             return Err(NO_ROOM);
         }
@@ -97,7 +104,7 @@ impl Node {
 
     pub fn ask(&self) -> Result<Answer, Refusal> {
         self.valid()?.in_state(State::Idle)?;
-        let held = self.vectors();
+        let held = self.queue();
         let Some((oldest, others)) = held.split_first() else {
             return Err(NOTHING_HELD);
         };
@@ -108,28 +115,38 @@ impl Node {
     }
 
     pub fn again(&self) -> Result<Answer, Refusal> {
-        self.valid()?.in_state(State::Asked)?;
-        let vector = Vector::of(&self.outstanding);
-        Ok(Answer {
-            rand: vector.rand,
-            autn: vector.autn,
-            ..Answer::only(Outcome::Done, self.clone())
+        let item = self.valid()?.out().ok_or(WRONG_STATE)?;
+        let nothing = Answer::only(Outcome::Done, self.clone());
+        Ok(match item {
+            Item::Vector(vector) => Answer {
+                rand: vector.rand,
+                autn: vector.autn,
+                ..nothing
+            },
+            Item::Triplet(triplet) => Answer {
+                rand: triplet.rand,
+                ..nothing
+            },
         })
     }
 
     pub fn answer(&self, res: &[u8]) -> Result<Answer, Refusal> {
-        let node = self.valid()?;
-        let res: [u8; 8] = res.try_into().map_err(|_| BAD_LENGTH)?;
-        node.in_state(State::Asked)?;
-        let vector = Vector::of(&self.outstanding);
-        let next = self.leaving(State::Idle);
-        if res != vector.xres {
-            return Ok(Answer::only(Outcome::Cause(2), next));
+        let out = self.valid()?.out();
+        if res.len() != response_length(out.as_ref()) {
+            return Err(BAD_LENGTH);
         }
-        Ok(Answer {
-            ck: vector.ck,
-            ik: vector.ik,
-            ..Answer::only(Outcome::Passed, next)
+        let next = self.leaving(State::Idle);
+        Ok(match out.ok_or(WRONG_STATE)? {
+            Item::Vector(vector) if *res == vector.xres => Answer {
+                ck: vector.ck,
+                ik: vector.ik,
+                ..Answer::only(Outcome::Passed, next)
+            },
+            Item::Triplet(triplet) if *res == triplet.sres => Answer {
+                kc: triplet.kc,
+                ..Answer::only(Outcome::Passed, next)
+            },
+            _ => Answer::only(Outcome::Cause(2), next),
         })
     }
 
@@ -138,21 +155,24 @@ impl Node {
         Ok(Answer::only(Outcome::Cause(1), self.leaving(State::Idle)))
     }
 
+    /// With a triplet out there is no AUTN, and so no synchronisation failure.
     pub fn sync(&self, auts: &[u8]) -> Result<Answer, Refusal> {
         let node = self.valid()?;
         let auts = auts.try_into().map_err(|_| BAD_LENGTH)?;
-        node.in_state(State::Asked)?;
+        let Some(Item::Vector(vector)) = node.out() else {
+            return Err(WRONG_STATE);
+        };
         Ok(Answer {
-            rand: Vector::of(&self.outstanding).rand,
+            rand: vector.rand,
             auts,
             ..Answer::only(Outcome::Done, self.leaving(State::Resyncing))
         })
     }
 
-    pub fn renew(&self, count: u64, batch: &[u8]) -> Result<Answer, Refusal> {
-        let vectors = self.batch(count, batch)?;
+    pub fn renew(&self, kind: Kind, count: u64, batch: &[u8]) -> Result<Answer, Refusal> {
+        let places = self.batch(kind, count, batch)?;
         self.in_state(State::Resyncing)?;
-        let node = self.holding(&vectors).leaving(State::Idle);
+        let node = self.holding(&places).leaving(State::Idle);
         Ok(Answer::only(Outcome::Done, node))
     }
 
@@ -180,41 +200,56 @@ impl Node {
         }
     }
 
-    /// The vectors of a batch of 1 to 5, for a valid record.
-    fn batch(&self, count: u64, batch: &[u8]) -> Result<Vec<Bytes>, Refusal> {
+    /// What was asked and is not answered. Nothing is out but in Asked.
+    fn out(&self) -> Option<Item> {
+        match self.state {
+            State::Asked => Item::of(&self.outstanding),
+            State::Idle | State::Resyncing => None,
+        }
+    }
+
+    /// A place for each of the 1 to 5 items of a batch, for a valid record.
+    fn batch(&self, kind: Kind, count: u64, batch: &[u8]) -> Result<Vec<Place>, Refusal> {
         self.valid()?;
         if count == 0 || count > MOST as u64 {
             return Err(BAD_COUNT);
         }
-        if batch.len() as u64 != LENGTH as u64 * count {
+        if batch.len() as u64 != kind.length() as u64 * count {
             return Err(BAD_LENGTH);
         }
-        let places = batch.chunks(LENGTH);
-        Ok(places
-            .map(|place| place.try_into().expect("72 bytes"))
-            .collect())
+        let items = batch.chunks(kind.length());
+        Ok(items.map(|item| kind.place(item)).collect())
     }
 
-    fn vectors(&self) -> Vec<Bytes> {
+    /// The places in use.
+    fn queue(&self) -> Vec<Place> {
         self.places[..usize::from(self.held)].to_vec()
     }
 
-    /// The same node with these vectors held.
-    fn holding(&self, vectors: &[Bytes]) -> Node {
+    /// The same node with these places in use.
+    fn holding(&self, places: &[Place]) -> Node {
         let mut node = self.clone();
         node.places = [NONE; ROOM];
-        node.places[..vectors.len()].copy_from_slice(vectors);
-        node.held = vectors.len() as u8;
+        node.places[..places.len()].copy_from_slice(places);
+        node.held = places.len() as u8;
         node
     }
 
-    /// Another state than Asked has no outstanding vector.
+    /// In another state than Asked nothing is outstanding.
     fn leaving(&self, state: State) -> Node {
         Node {
             state,
             outstanding: NONE,
             ..self.clone()
         }
+    }
+}
+
+/// The length of the response to what is out; with nothing out, a vector's.
+fn response_length(out: Option<&Item>) -> usize {
+    match out {
+        Some(Item::Triplet(_)) => 4,
+        Some(Item::Vector(_)) | None => 8,
     }
 }
 

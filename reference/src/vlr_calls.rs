@@ -1,9 +1,9 @@
 //! The words of `calls` for the node that it keeps.
 
 use crate::calls::{read_small, write_refusal};
+use crate::place::{Kind, Place, LENGTH};
 use crate::text::{read_bytes, read_hex, read_number, write_bytes, write_hex, write_number};
 use crate::usim::Refusal;
-use crate::vector::{Bytes, LENGTH};
 use crate::vlr::{Answer, Node, Outcome, State, ROOM};
 
 const STATES: [State; 3] = [State::Idle, State::Asked, State::Resyncing];
@@ -16,13 +16,17 @@ pub fn call(node: &mut Node, fields: &[&[u8]]) -> Option<Vec<u8>> {
     let answer = match *fields {
         [b"vlr-new"] => put(Node::new()),
         [b"vlr-record", state, held, out, places] => put(read_node([state, held, out, places])?),
-        [b"store", count, batch] => node.store(read_number(count)?, &read_bytes(batch)?),
+        [b"store", kind, count, batch] => {
+            node.store(read_kind(kind)?, read_number(count)?, &read_bytes(batch)?)
+        }
         [b"ask"] => node.ask(),
         [b"again"] => node.again(),
         [b"answer", res] => node.answer(&read_bytes(res)?),
         [b"reject"] => node.reject(),
         [b"sync", auts] => node.sync(&read_bytes(auts)?),
-        [b"renew", count, batch] => node.renew(read_number(count)?, &read_bytes(batch)?),
+        [b"renew", kind, count, batch] => {
+            node.renew(read_kind(kind)?, read_number(count)?, &read_bytes(batch)?)
+        }
         [b"timeout"] => node.timeout(),
         [b"abandon"] => node.abandon(),
         _ => return None,
@@ -67,6 +71,7 @@ fn write_line(outcome: Vec<u8>, answer: &Answer) -> Vec<u8> {
         write_hex(&answer.auts),
         write_hex(&answer.ck),
         write_hex(&answer.ik),
+        write_hex(&answer.kc),
         write_number(state.expect("one of the three") as u64),
         write_number(node.held.into()),
         write_hex(&node.outstanding),
@@ -80,6 +85,15 @@ fn without_last_zeros(bytes: &[u8]) -> &[u8] {
     &bytes[..last.map_or(0, |place| place + 1)]
 }
 
+/// The kind is one digit alone.
+fn read_kind(field: &[u8]) -> Option<Kind> {
+    match field {
+        b"0" => Some(Kind::Vector),
+        b"1" => Some(Kind::Triplet),
+        _ => None,
+    }
+}
+
 fn read_node([state, held, out, places]: [&[u8]; 4]) -> Option<Node> {
     Some(Node {
         state: *STATES.get(usize::from(read_small(state)?))?,
@@ -90,7 +104,7 @@ fn read_node([state, held, out, places]: [&[u8]; 4]) -> Option<Node> {
 }
 
 /// What is not given of the places is zero.
-fn read_places(field: &[u8]) -> Option<[Bytes; ROOM]> {
+fn read_places(field: &[u8]) -> Option<[Place; ROOM]> {
     let mut bytes = read_bytes(field)?;
     if bytes.len() > ALL_PLACES {
         return None;

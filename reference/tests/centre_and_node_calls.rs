@@ -141,7 +141,7 @@ fn outcomes(given: &[&str]) -> Vec<String> {
         let line = String::from_utf8(line.to_vec()).unwrap();
         let fields: Vec<&str> = line.split(' ').collect();
         match fields[..] {
-            [ref outcome @ .., _, _, _, _, _, state, held, _, _] => {
+            [ref outcome @ .., _, _, _, _, _, _, state, held, _, _] => {
                 format!("{} {state} {held}", outcome.join(" "))
             }
             _ => line,
@@ -152,8 +152,8 @@ fn outcomes(given: &[&str]) -> Vec<String> {
 
 #[test]
 fn the_node_is_kept_from_line_to_line() {
-    let store = format!("store 1 {VECTOR}");
-    let renew = format!("renew 1 {VECTOR}");
+    let store = format!("store 0 1 {VECTOR}");
+    let renew = format!("renew 0 1 {VECTOR}");
     let sync = format!("sync {AUTS}");
     let other = format!("vector {VECTOR} 7");
     let told = outcomes(&[
@@ -217,10 +217,10 @@ fn the_node_is_kept_from_line_to_line() {
 
 #[test]
 fn the_node_line() {
-    let zeros = "0".repeat(144);
+    let zeros = "0".repeat(146);
     let line =
-        |outcome: &str, parts: [&str; 5], end: &str| format!("{outcome} {} {end}", parts.join(" "));
-    let none = [ZEROS, ZEROS, &zeros[..28], ZEROS, ZEROS];
+        |outcome: &str, parts: [&str; 6], end: &str| format!("{outcome} {} {end}", parts.join(" "));
+    let none = [ZEROS, ZEROS, &zeros[..28], ZEROS, ZEROS, "0000000000000000"];
     assert_eq!(
         call("vlr-new"),
         line("done", none, &format!("0 0 {zeros} -"))
@@ -229,9 +229,9 @@ fn the_node_line() {
         call("ask"),
         line("refused 8", none, &format!("0 0 {zeros} -"))
     );
-    let stored = line("done", none, &format!("0 1 {zeros} {VECTOR}"));
-    assert_eq!(call(&format!("store 1 {VECTOR}")), stored);
-    let cut = format!("vlr-record 1 200 {VECTOR} {VECTOR}0000");
-    let record = line("done", none, &format!("1 200 {VECTOR} {VECTOR}"));
+    let stored = line("done", none, &format!("0 1 {zeros} 00{VECTOR}"));
+    assert_eq!(call(&format!("store 0 1 {VECTOR}")), stored);
+    let cut = format!("vlr-record 1 200 00{VECTOR} 00{VECTOR}0000");
+    let record = line("done", none, &format!("1 200 00{VECTOR} 00{VECTOR}"));
     assert_eq!(call(&cut), record);
 }

@@ -1,12 +1,14 @@
 //! The node: every operation in every state, and the order of its refusals.
 
+use reference::place::{Kind, NONE};
 use reference::random::Random;
 use reference::usim::Refusal;
-use reference::vector::{Bytes, Vector, LENGTH};
+use reference::vector::{Bytes, Vector};
 use reference::vlr::{Answer, Node, Outcome, State, ROOM};
 
 const STATES: [State; 3] = [State::Idle, State::Asked, State::Resyncing];
 const AUTS: [u8; 14] = [0xa5; 14];
+const VECTOR: Kind = Kind::Vector;
 
 fn vectors(n: usize) -> Vec<Bytes> {
     let mut random = Random::new(72);
@@ -18,9 +20,11 @@ fn node(state: State, held: usize) -> Node {
     let mut node = Node::new();
     node.state = state;
     node.held = held as u8;
-    node.places[..held].copy_from_slice(&vectors(held));
+    for (place, vector) in node.places.iter_mut().zip(vectors(held)) {
+        *place = VECTOR.place(&vector);
+    }
     if state == State::Asked {
-        node.outstanding = outstanding().bytes();
+        node.outstanding = VECTOR.place(&outstanding().bytes());
     }
     node
 }
@@ -33,13 +37,16 @@ type Operation = fn(&Node) -> Result<Answer, Refusal>;
 
 /// Each operation with all that is lent as named, and the states it is for.
 const OPERATIONS: [(Operation, &[State]); 9] = [
-    (|node| node.store(1, &[1; 72]), &[State::Idle, State::Asked]),
+    (
+        |node| node.store(VECTOR, 1, &[1; 72]),
+        &[State::Idle, State::Asked],
+    ),
     (|node| node.ask(), &[State::Idle]),
     (|node| node.again(), &[State::Asked]),
     (|node| node.answer(&[0; 8]), &[State::Asked]),
     (|node| node.reject(), &[State::Asked]),
     (|node| node.sync(&AUTS), &[State::Asked]),
-    (|node| node.renew(1, &[1; 72]), &[State::Resyncing]),
+    (|node| node.renew(VECTOR, 1, &[1; 72]), &[State::Resyncing]),
     (|node| node.timeout(), &[State::Resyncing]),
     (|node| node.abandon(), &[State::Asked]),
 ];
@@ -70,14 +77,14 @@ fn an_invalid_record_is_refused_first() {
             records.push(record);
         }
         for place in 1..ROOM {
-            for byte in [0, 71] {
+            for byte in [0, 1, 72] {
                 let mut record = node(state, 1);
                 record.places[place][byte] = 1;
                 records.push(record);
             }
         }
     }
-    for (state, byte) in [(State::Idle, 0), (State::Resyncing, 71)] {
+    for (state, byte) in [(State::Idle, 0), (State::Resyncing, 72)] {
         let mut record = node(state, 1);
         record.outstanding[byte] = 1;
         records.push(record);
@@ -87,8 +94,8 @@ fn an_invalid_record_is_refused_first() {
         for (operation, _) in OPERATIONS {
             assert_eq!(operation(&record), Err(Refusal(1)));
         }
-        assert_eq!(record.store(0, &[]), Err(Refusal(1)));
-        assert_eq!(record.renew(6, &[]), Err(Refusal(1)));
+        assert_eq!(record.store(VECTOR, 0, &[]), Err(Refusal(1)));
+        assert_eq!(record.renew(VECTOR, 6, &[]), Err(Refusal(1)));
         assert_eq!(record.answer(&[]), Err(Refusal(1)));
         assert_eq!(record.sync(&[]), Err(Refusal(1)));
     }
@@ -97,7 +104,7 @@ fn an_invalid_record_is_refused_first() {
 #[test]
 fn any_outstanding_vector_is_valid_in_asked() {
     let mut node = node(State::Asked, 0);
-    node.outstanding = [0; LENGTH];
+    node.outstanding = NONE;
     assert!(node.is_valid());
     assert_eq!(node.answer(&[0; 8]).unwrap().outcome, Outcome::Passed);
 }
@@ -109,18 +116,26 @@ fn count_then_length_then_state_then_room() {
         for count in [0, 6, 7, 256, 257, 1 << 61, u64::MAX] {
             for length in [0, 72, 432] {
                 let batch = &[1; 432][..length];
-                assert_eq!(full.store(count, batch), Err(Refusal(2)));
-                assert_eq!(full.renew(count, batch), Err(Refusal(2)));
+                assert_eq!(full.store(VECTOR, count, batch), Err(Refusal(2)));
+                assert_eq!(full.renew(VECTOR, count, batch), Err(Refusal(2)));
             }
         }
-        for (count, length) in [(1, 0), (1, 71), (1, 73), (1, 144), (5, 359), (5, 72)] {
+        for (count, length) in [
+            (1, 0),
+            (1, 28),
+            (1, 71),
+            (1, 73),
+            (1, 144),
+            (5, 359),
+            (5, 140),
+        ] {
             let batch = &[1; 432][..length];
-            assert_eq!(full.store(count, batch), Err(Refusal(3)));
-            assert_eq!(full.renew(count, batch), Err(Refusal(3)));
+            assert_eq!(full.store(VECTOR, count, batch), Err(Refusal(3)));
+            assert_eq!(full.renew(VECTOR, count, batch), Err(Refusal(3)));
         }
         let number = if state == State::Resyncing { 7 } else { 9 };
-        assert_eq!(full.store(1, &[1; 72]), Err(Refusal(number)));
-        for length in [0, 7, 9, 16] {
+        assert_eq!(full.store(VECTOR, 1, &[1; 72]), Err(Refusal(number)));
+        for length in [0, 4, 7, 9, 16] {
             assert_eq!(full.answer(&[0; 16][..length]), Err(Refusal(3)));
         }
         for length in [0, 13, 15, 28] {
@@ -135,7 +150,7 @@ fn a_batch_stands_behind_what_was_held() {
         for held in 0..=ROOM {
             for n in 1..=5 {
                 let batch = vectors(held + n)[held..].concat();
-                let answer = node(state, held).store(n as u64, &batch);
+                let answer = node(state, held).store(VECTOR, n as u64, &batch);
                 match held + n <= ROOM {
                     true => {
                         let next = node(state, held + n);
@@ -154,7 +169,7 @@ fn the_oldest_is_asked_first_and_its_place_is_used_again() {
     for vector in vectors(ROOM) {
         let parts = Vector::of(&vector);
         let asked = node.ask().unwrap();
-        assert_eq!(asked.node.outstanding, vector);
+        assert_eq!(asked.node.outstanding, VECTOR.place(&vector));
         let expected = Answer {
             rand: parts.rand,
             autn: parts.autn,
@@ -170,7 +185,7 @@ fn the_oldest_is_asked_first_and_its_place_is_used_again() {
         };
         assert_eq!(passed, expected);
         assert_eq!(passed.node.held + 1, node.held);
-        assert!(passed.node.is_valid() && passed.node.store(1, &vector).is_ok());
+        assert!(passed.node.is_valid() && passed.node.store(VECTOR, 1, &vector).is_ok());
         node = passed.node;
     }
     assert_eq!(node, Node::new());
@@ -205,7 +220,8 @@ fn a_synchronisation_failure_and_what_ends_it() {
     assert_eq!(resyncing.timeout(), Ok(kept));
     for held in [0, 3, ROOM] {
         for n in 1..=5 {
-            let renewed = node(State::Resyncing, held).renew(n as u64, &vectors(n).concat());
+            let batch = vectors(n).concat();
+            let renewed = node(State::Resyncing, held).renew(VECTOR, n as u64, &batch);
             let expected = Answer::only(Outcome::Done, node(State::Idle, n));
             assert_eq!(renewed, Ok(expected));
         }

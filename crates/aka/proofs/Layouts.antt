@@ -4,13 +4,14 @@ use mathlib.Core.List.{_++_}
 use mathlib.Core.Logic.{⊎-elim}
 use mathlib.Core.Path.{_≡_, sym, ap₂, _∙_}
 use native.Mathlib.Nat.{mul-le-mul-left, mul-suc, eq-or-lt-of-le}
+use native.Mathlib.Numerals.{add-one}
 use native.Mathlib.Omega.{arith}
 use lib.ListN.{length, drop, length-append, length-drop}
 use lib.Seq.{take-all, drop-at, drop-append-le, take-append-le}
 use Rattle.octets.specs.Octets.{Octets, part}
-use Rattle.aka.specs.Layout.{Autn, Auts, Vector, randSize, resSize, ckSize, ikSize, sqnSize, amfSize, macSize}
-use Rattle.aka.specs.Layout.{autnSize, autsSize, vectorSize, xresAt, ckAt, ikAt}
-use Rattle.aka.specs.Layout.{writeAutn, readAutn, writeAuts, readAuts, writeVector, readVector, joined}
+use Rattle.aka.specs.Layout.{Autn, Auts, Vector, Triplet, randSize, resSize, ckSize, ikSize, sqnSize, amfSize, macSize}
+use Rattle.aka.specs.Layout.{autnSize, autsSize, vectorSize, xresAt, ckAt, ikAt, sresSize, kcSize, tripletSize}
+use Rattle.aka.specs.Layout.{writeAutn, readAutn, writeAuts, readAuts, writeVector, readVector, writeTriplet, readTriplet, joined}
 use Rattle.octets.proofs.Parts.{front, past, whole, meet}
 
 -- ---- AUTN
@@ -106,7 +107,34 @@ write-vector x h =
     )
     (whole x vectorSize h)
 
--- ---- strings of one length, joined
+-- ---- a triplet
+
+pub record TripletSized (t : Triplet) : Type 0 where
+  pub rand : length (t .rand) ≡ randSize
+  pub sres : length (t .sres) ≡ sresSize
+  pub kc : length (t .kc) ≡ kcSize
+
+pub length-triplet : (t : Triplet) → TripletSized t → length (writeTriplet t) ≡ tripletSize
+unfolding writeTriplet
+length-triplet t h = simp length-append (omega arith)
+
+pub read-triplet : (t : Triplet) → TripletSized t → readTriplet (writeTriplet t) ≡ t
+unfolding writeTriplet readTriplet
+read-triplet t h =
+    let rest = t .sres ++ t .kc in
+    λ i. record {
+      rand = front (t .rand) rest randSize (h .rand) i;
+      sres = (past (t .rand) rest randSize 0 sresSize (h .rand) ∙ front (t .sres) (t .kc) sresSize (h .sres)) i;
+      kc = (past (t .rand) rest randSize sresSize kcSize (h .rand)
+          ∙ past (t .sres) (t .kc) sresSize 0 kcSize (h .sres)
+          ∙ whole (t .kc) kcSize (h .kc)) i;
+    }
+
+-- ---- strings joined, and strings of one length
+
+pub joined-next : (f : ℕ → Octets) (n : ℕ) → joined f (n + 1) ≡ joined f n ++ f n
+unfolding joined
+joined-next f n = rw (add-one n)
 
 module _ (f : ℕ → Octets) (m : ℕ) where
   pub length-joined : (n : ℕ) → ((k : ℕ) → k < n → length (f k) ≡ m) → length (joined f n) ≡ m * n

@@ -7,6 +7,7 @@ pub mod Verdicts
 pub mod Failures
 pub mod Pairs
 pub mod Held
+pub mod VlrPlaces
 pub mod VlrRecords
 pub mod Replies
 pub mod Steps
@@ -21,6 +22,7 @@ pub mod AucLaws
 pub mod VlrLaws
 pub mod OrderOfUse
 pub mod VlrWitnesses
+pub mod Triplets
 pub mod ShutOut
 pub mod Rising
 pub mod Demand3

@@ -1,31 +1,34 @@
 -- The order of use at one VLR, proved from the laws of its answers (`VlrLaws`) and not from its definitions: an invariant, `Agrees`, that
 -- each call keeps. Assumes nothing.
 use Prim.Native.Nat.{ℕ, zero, suc, _+_, _-_, _*_, _≤_, _<_}
-use mathlib.Core.Bool.{Bool, true, false, _&&_, _||_, not, cond, true≢false}
+use mathlib.Core.Bool.{Bool, true, false, not, cond, or-true, true≢false}
 use mathlib.Core.List.{List, [], _∷_, _++_}
 use mathlib.Core.Logic.{_↔_, ⊎-elim}
 use mathlib.Core.Option.{Option, none, some}
 use mathlib.Core.Path.{_≡_, refl, sym, ap, ap₂, _∙_, subst, subst₂}
 use native.Mathlib.Nat.{suc-add, eq-or-lt-of-le}
 use native.Mathlib.Omega.{arith}
-use borrow.Author.Tests.{ltb-true, ltb-false, le-leb, lt-leb, eq-eqb, ne-eqb, eqb-true, eqb-false}
-use lib.Dec.{eqb, ltb, leb}
+use borrow.Author.Tests.{ltb-true, ltb-false, eq-eqb, ne-eqb, eqb-true, eqb-false}
+use lib.Dec.{eqb, ltb}
 use lib.ListN.{length, take, drop, length-append, length-drop, take-append-drop}
 use lib.Seq.{drop-drop, take-add}
 use Rattle.octets.specs.Octets.{Octets, zeros, part}
 use Rattle.octets.proofs.Absurd.{zero-not-one}
 use Rattle.octets.proofs.Parts.{past}
-use Rattle.aka.specs.Layout.{Vector, readVector}
-use Rattle.aka.specs.Vlr.{Vlr, VlrAnswer, State, refusalOf, mostHeld, placeSize, noVector, newVlr, validVlr}
+use Rattle.aka.specs.Layout.{Kind, itemSize}
+use Rattle.aka.specs.Vlr.{Vlr, VlrAnswer, State, refusalOf, mostHeld, placeSize, placeAt, itemOf, placesOf, placed, kindIn}
+use Rattle.aka.specs.Vlr.{Run, runIn, noItem, newVlr, validVlr}
 use Rattle.aka.specs.Vlr as node
 use Rattle.aka.specs.Calls.{Call, reply, store, renew, ask, again, answer, sync, reject, timeout, abandon}
 use Rattle.aka.specs.Demand3.{Each}
-use Rattle.aka.specs.VlrLaws.{placeAt, VlrShaped, termsOf, Due, given, nothing, requestOf, Left, Stored, Renewed, Asks, Does, VlrLaws}
-use Rattle.aka.specs.OrderOfUse.{Phase, idle, asked, resyncing, History, nothingYet, isIn, isUnused, unusedFrom, unused, oldest}
-use Rattle.aka.specs.OrderOfUse.{unanswered, enters, requests, adds, Handled, isTaken, after, stateOf, vectorsAt, outOf}
-use Rattle.aka.specs.OrderOfUse.{recordOf, OfVector, Gives, Rising, Meets, InOrder, answers, OrderOfUse}
+use Rattle.aka.specs.VlrLaws.{VlrShaped, termsOf, Due, given, nothing, requestOf, Left, Stored, Renewed, Asks, Does, VlrLaws}
+use Rattle.aka.specs.OrderOfUse.{Phase, idle, asked, resyncing, Way, requested, dropped, Gone, History, nothingYet, positions, isIn}
+use Rattle.aka.specs.OrderOfUse.{isUnused, unusedFrom, unused, oldest, unanswered, enters, leave, requests, adds, Handled, isTaken}
+use Rattle.aka.specs.OrderOfUse.{after, stateOf, placesAt, outOf, recordOf, OfRun, Gives, Rising, Meets, InOrder, answers}
+use Rattle.aka.specs.OrderOfUse.{OrderOfUse}
 use Rattle.aka.proofs.Lists.{each-map}
 use Rattle.aka.proofs.Held.{zeros-are, part-before}
+use Rattle.aka.proofs.VlrPlaces.{length-places, place-of}
 use Rattle.aka.proofs.VlrRecords.{valid-true, true-valid, new-valid, new-shaped}
 use Rattle.aka.proofs.VlrLaws.{laws}
 
@@ -48,10 +51,10 @@ first-up p (suc n) h = refl
 
 -- ---- places
 
--- the first n places of a queue are the vectors stored from a position on
+-- the first n places of a queue are those stored from a position on
 held-are : (stored queue : Octets) (n low : ℕ) → ((k : ℕ) → k < n → placeAt queue k ≡ placeAt stored (low + k))
-    → take (placeSize * n) queue ≡ vectorsAt stored (upFrom low n)
-unfolding upFrom vectorsAt
+    → take (placeSize * n) queue ≡ placesAt stored (upFrom low n)
+unfolding upFrom placesAt
 held-are stored queue zero low each = refl
 held-are stored queue (suc n) low each =
     let first : placeAt queue 0 ≡ placeAt stored (low + 0) = each 0 (omega arith) in
@@ -68,7 +71,7 @@ held-are stored queue (suc n) low each =
     ∙ each (suc k) (omega arith)
     ∙ ap (placeAt stored) next))
 
--- of what is stored, the batch behind it and the vectors before it
+-- of what is stored, the places behind it and those before
 module _ (stored batch : Octets) (total : ℕ) (size : length stored ≡ placeSize * total) where
   behind-stored : (j : ℕ) → placeAt batch j ≡ placeAt (stored ++ batch) (total + j)
   behind-stored j =
@@ -104,15 +107,56 @@ unfolding isIn
 not-in p [] e = refl
 not-in p (q ∷ l) e = rw (ne-eqb p q (λ same. let lt = e .0 in omega arith)) (not-in p l (e .1))
 
+-- ---- what has left: the positions below `low`, in their order
+
+pub record Cleared (gone : List Gone) (low : ℕ) : Type 0 where
+  pub rising : Rising (positions gone)
+  pub earlier : Each (λ q. q < low) (positions gone)
+  pub all : (p : ℕ) → p < low → isIn p (positions gone) ≡ true
+
+-- the next one leaves
+next-leaves : (way : Way) (gone : List Gone) (low : ℕ) → Cleared gone low
+    → Cleared (record { position = low; way = way } ∷ gone) (suc low)
+unfolding isIn
+next-leaves way gone low c = record {
+  rising = (c .earlier, c .rising);
+  earlier = (omega arith, each-map (λ q. q < low) (λ q. q < suc low) (λ q lt. omega arith) (positions gone) (c .earlier));
+  all = λ p lt. ⊎-elim
+      (λ same. rw (eq-eqb p low same))
+      (λ below. rw (c .all p below) (or-true (eqb p low)))
+      (eq-or-lt-of-le (omega arith));
+}
+
+-- and so the next n
+first-leave : (way : Way) (n : ℕ) (gone : List Gone) (low : ℕ) → Cleared gone low → Cleared (leave way (upFrom low n) gone) (low + n)
+unfolding leave upFrom
+first-leave way zero gone low c = let here : low ≡ low + 0 = omega arith in subst (Cleared gone) here c
+first-leave way (suc n) gone low c =
+    let here : suc low + n ≡ low + suc n = omega arith in
+    let step : List Gone = record { position = low; way = way } ∷ gone in
+    subst (Cleared (leave way (upFrom (suc low) n) step)) here (first-leave way n step (suc low) (next-leaves way gone low c))
+
+-- those below have left, the others are unused
+module _ (h : History) (low : ℕ) (c : Cleared (h .gone) low) where
+  used : (p : ℕ) → p < low → isUnused h p ≡ false
+  unfolding isUnused
+  used p lt = ap not (c .all p lt)
+
+  waiting : (p : ℕ) → low ≤ p → isUnused h p ≡ true
+  unfolding isUnused
+  waiting p le = ap not
+      (not-in p (positions (h .gone))
+      (each-map (λ q. q < low) (λ q. q < p) (λ q lt. omega arith) (positions (h .gone)) (c .earlier)))
+
 -- ---- the invariant
 
--- the vector whose request is unanswered has been stored
+-- the item whose request is unanswered has been stored
 abbrev Known : (total : ℕ) → Phase → Type 0
 Known total idle = Unit {0}
 Known total (asked p) = p < total
 Known total resyncing = Unit {0}
 
--- `low` is the position of the oldest vector held: those before it are gone, those from it on are held
+-- `low` is the position of the oldest item held: those before it have left, those from it on are held
 pub record Agrees (h : History) (vlr : Vlr) : Type 0 where
   pub low : ℕ
   pub meets : low + vlr .held ≡ h .total
@@ -123,13 +167,9 @@ pub record Agrees (h : History) (vlr : Vlr) : Type 0 where
   pub state : vlr .state ≡ stateOf (h .phase)
   pub out : vlr .out ≡ outOf (h .stored) (h .phase)
   pub known : Known (h .total) (h .phase)
-  pub rising : Rising (h .requested)
-  pub gone : (p : ℕ) → p < low → isUnused h p ≡ false
-  pub waiting : (p : ℕ) → low ≤ p → isUnused h p ≡ true
-  pub earlier : Each (λ q. q < low) (h .requested)
+  pub cleared : Cleared (h .gone) low
 
 pub new-agrees : Agrees nothingYet newVlr
-unfolding isUnused isIn
 new-agrees = record {
   low = 0;
   meets = refl;
@@ -140,10 +180,7 @@ new-agrees = record {
   state = refl;
   out = refl;
   known = tt;
-  rising = tt;
-  gone = λ p lt. absurd (omega arith);
-  waiting = λ p le. rw (le-leb 0 p (omega arith));
-  earlier = tt;
+  cleared = record { rising = tt; earlier = tt; all = λ p lt. absurd (omega arith) };
 }
 
 -- the record is what the history tells
@@ -152,21 +189,21 @@ module _ (h : History) (vlr : Vlr) (a : Agrees h vlr) where
   unused-are =
       let here : 0 + a .low ≡ a .low = omega arith in
       ap (unusedFrom h 0) (sym (a .meets))
-      ∙ skip h (a .low) (vlr .held) 0 (λ q le lt. a .gone q (omega arith))
+      ∙ skip h (a .low) (vlr .held) 0 (λ q le lt. used h (a .low) (a .cleared) q (omega arith))
       ∙ ap (λ (p : ℕ). unusedFrom h p (vlr .held)) here
-      ∙ all-unused h (vlr .held) (a .low) (a .waiting)
+      ∙ all-unused h (vlr .held) (a .low) (waiting h (a .low) (a .cleared))
 
   held-is : vlr .held ≡ length (unused h)
   held-is = sym (ap length unused-are ∙ length-up (a .low) (vlr .held))
 
-  queue-is : vlr .queue ≡ vectorsAt (h .stored) (unused h) ++ zeros (placeSize * (mostHeld - length (unused h)))
+  queue-is : vlr .queue ≡ placesAt (h .stored) (unused h) ++ zeros (placeSize * (mostHeld - length (unused h)))
   queue-is =
       let n = placeSize * vlr .held in
       let behind : length (drop n (vlr .queue)) ≡ placeSize * (mostHeld - vlr .held)
       = length-drop n (vlr .queue) ∙ (let s = a .shaped .queue in omega arith) in
       sym (take-append-drop n (vlr .queue))
       ∙ ap₂ (λ (x y : Octets). x ++ y)
-      (held-are (h .stored) (vlr .queue) (vlr .held) (a .low) (a .places) ∙ ap (vectorsAt (h .stored)) (sym unused-are))
+      (held-are (h .stored) (vlr .queue) (vlr .held) (a .low) (a .places) ∙ ap (placesAt (h .stored)) (sym unused-are))
       (zeros-are (drop n (vlr .queue)) (valid-true vlr (a .valid) .unused)
       ∙ ap zeros (behind ∙ ap (λ (m : ℕ). placeSize * (mostHeld - m)) held-is))
 
@@ -179,14 +216,14 @@ module _ (h : History) (vlr : Vlr) (a : Agrees h vlr) where
 
 -- ---- what a call that is taken leaves, and what it gives
 
--- the vector whose request is unanswered is the outstanding one
+-- the item whose request is unanswered is the outstanding one
 of-unanswered : (h : History) (phase : Phase) (out : Octets) → stateOf phase ≡ node.asked → Known (h .total) phase
-    → out ≡ outOf (h .stored) phase → (P : Vector → Type 0) → P (readVector out) → OfVector h (unanswered phase) P
+    → out ≡ outOf (h .stored) phase → (P : Run → Type 0) → P (runIn out) → OfRun h (unanswered phase) P
 of-unanswered h idle out is k e P p = zero-not-one (cc)
-of-unanswered h (asked q) out is k e P p = (k, subst (λ (x : Octets). P (readVector x)) e p)
+of-unanswered h (asked q) out is k e P p = (k, subst (λ (x : Octets). P (runIn x)) e p)
 of-unanswered h resyncing out is k e P p = zero-not-one (cc)
 
--- a batch behind leaves the outstanding vector, and what is known of it
+-- places behind leave the outstanding one, and what is known of it
 module _ (stored batch : Octets) (total count : ℕ) (size : length stored ≡ placeSize * total) where
   same-out : (phase : Phase) → Known total phase → outOf stored phase ≡ outOf (stored ++ batch) phase
   same-out idle k = refl
@@ -198,26 +235,13 @@ module _ (stored batch : Octets) (total count : ℕ) (size : length stored ≡ p
   still-known (asked p) k = omega arith
   still-known resyncing k = tt
 
--- a position that is dropped or asked now is used, and one that was used is
-used-dropped : (dropped p : ℕ) (b : Bool) → p < dropped → (leb dropped p && b) ≡ false
-used-dropped dropped p b lt = rw (lt-leb dropped p lt)
-
-used-now : (d i : Bool) → (d && not (true || i)) ≡ false
-used-now false i = refl
-used-now true i = refl
-
-used-before : (d e i : Bool) → (d && not i) ≡ false → (d && not (e || i)) ≡ false
-used-before false e i q = refl
-used-before true true i q = refl
-used-before true false i q = q
-
 module _ (h : History) (vlr : Vlr) (a : Agrees h vlr) (answered : VlrAnswer) (valid : validVlr (answered .vlr) ≡ true)
     (shaped : VlrShaped (answered .vlr)) where
   abbrev next : Vlr
   next = answered .vlr
 
   -- the node has left Asked or Resyncing
-  leaves : (phase : Phase) → outOf (h .stored) phase ≡ noVector → Known (h .total) phase → Left (stateOf phase) vlr next
+  leaves : (phase : Phase) → outOf (h .stored) phase ≡ noItem → Known (h .total) phase → Left (stateOf phase) vlr next
       → Agrees (enters h phase) next
   unfolding isUnused
   leaves phase absent known l =
@@ -233,76 +257,72 @@ module _ (h : History) (vlr : Vlr) (a : Agrees h vlr) (answered : VlrAnswer) (va
         state = l .state;
         out = l .out ∙ sym absent;
         known = known;
-        rising = a .rising;
-        gone = a .gone;
-        waiting = a .waiting;
-        earlier = a .earlier;
+        cleared = a .cleared;
       }
 
-  store-leaves : (count : ℕ) (batch : Octets) → length batch ≡ placeSize * count → Stored vlr answered count batch
-      → Agrees (adds h (store count batch)) next
-  unfolding isUnused
-  store-leaves count batch long s =
-      let more = s .held in
-      let sum = a .meets in
-      record {
-        low = a .low;
-        meets = omega arith;
-        size = length-append (h .stored) batch ∙ (let was = a .size in omega arith);
-        valid = valid;
-        shaped = shaped;
-        places = λ k lt. place k (ltb k (vlr .held)) refl lt;
-        state = s .state ∙ a .state;
-        out = s .out ∙ a .out ∙ same-out (h .stored) batch (h .total) count (a .size) (h .phase) (a .known);
-        known = still-known (h .stored) batch (h .total) count (a .size) (h .phase) (a .known);
-        rising = a .rising;
-        gone = a .gone;
-        waiting = a .waiting;
-        earlier = a .earlier;
-      }
-    where
-      place : (k : ℕ) (b : Bool) → ltb k (vlr .held) ≡ b → k < next .held
-          → placeAt (next .queue) k ≡ placeAt (h .stored ++ batch) (a .low + k)
-      place k true e lt =
-          let below = ltb-true k (vlr .held) e in
-          let sum = a .meets in
-          s .before k below ∙ a .places k below ∙ before-batch (h .stored) batch (h .total) (a .size) (a .low + k) (omega arith)
-      place k false e lt =
-          let past-held = ltb-false k (vlr .held) e in
-          let sum = a .meets in
-          let more = s .held in
-          let j = k - vlr .held in
-          let here : k ≡ vlr .held + j = omega arith in
-          let there : h .total + j ≡ a .low + k = omega arith in
-          ap (placeAt (next .queue)) here
-          ∙ s .behind j (omega arith)
-          ∙ behind-stored (h .stored) batch (h .total) (a .size) j
-          ∙ ap (placeAt (h .stored ++ batch)) there
+  module _ (kind : Kind) (count : ℕ) (batch : Octets) (long : length batch ≡ itemSize kind * count) where
+    abbrev places : Octets
+    places = placesOf kind batch count
 
-  renew-leaves : (count : ℕ) (batch : Octets) → length batch ≡ placeSize * count → Renewed vlr answered count batch
-      → Agrees (adds h (renew count batch)) next
-  unfolding isUnused
-  renew-leaves count batch long r =
-      let sum = a .meets in
-      let held = r .held in
-      record {
-        low = h .total;
-        meets = omega arith;
-        size = length-append (h .stored) batch ∙ (let was = a .size in omega arith);
-        valid = valid;
-        shaped = shaped;
-        places = λ k lt. r .batch-held k (omega arith) ∙ behind-stored (h .stored) batch (h .total) (a .size) k;
-        state = r .state;
-        out = r .out;
-        known = tt;
-        rising = a .rising;
-        gone = λ p lt. used-dropped (h .total) p (not (isIn p (h .requested))) lt;
-        waiting = λ p le. rw (
-          le-leb (h .total) p le,
-          not-in p (h .requested) (each-map (λ q. q < a .low) (λ q. q < p) (λ q lt. omega arith) (h .requested) (a .earlier)),
-        );
-        earlier = each-map (λ q. q < a .low) (λ q. q < h .total) (λ q lt. omega arith) (h .requested) (a .earlier);
-      }
+    size-is : length (h .stored ++ places) ≡ placeSize * (h .total + count)
+    size-is = length-append (h .stored) places ∙ (let was = a .size in let more = length-places kind batch count long in omega arith)
+
+    -- item j of the batch, behind all that was stored
+    item-is : (j : ℕ) → j < count → placed kind (itemOf kind batch j) ≡ placeAt (h .stored ++ places) (h .total + j)
+    item-is j lt = sym (place-of kind batch count long j lt) ∙ behind-stored (h .stored) places (h .total) (a .size) j
+
+    store-leaves : Stored vlr answered kind count batch → Agrees (adds h (store kind count batch)) next
+    store-leaves s =
+        let more = s .held in
+        let sum = a .meets in
+        record {
+          low = a .low;
+          meets = omega arith;
+          size = size-is;
+          valid = valid;
+          shaped = shaped;
+          places = λ k lt. place k (ltb k (vlr .held)) refl lt;
+          state = s .state ∙ a .state;
+          out = s .out ∙ a .out ∙ same-out (h .stored) places (h .total) count (a .size) (h .phase) (a .known);
+          known = still-known (h .stored) places (h .total) count (a .size) (h .phase) (a .known);
+          cleared = a .cleared;
+        }
+      where
+        place : (k : ℕ) (b : Bool) → ltb k (vlr .held) ≡ b → k < next .held
+            → placeAt (next .queue) k ≡ placeAt (h .stored ++ places) (a .low + k)
+        place k true e lt =
+            let below = ltb-true k (vlr .held) e in
+            let sum = a .meets in
+            s .before k below ∙ a .places k below ∙ before-batch (h .stored) places (h .total) (a .size) (a .low + k) (omega arith)
+        place k false e lt =
+            let past-held = ltb-false k (vlr .held) e in
+            let sum = a .meets in
+            let more = s .held in
+            let j = k - vlr .held in
+            let here : k ≡ vlr .held + j = omega arith in
+            let there : h .total + j ≡ a .low + k = omega arith in
+            ap (placeAt (next .queue)) here
+            ∙ s .behind j (omega arith)
+            ∙ item-is j (omega arith)
+            ∙ ap (placeAt (h .stored ++ places)) there
+
+    renew-leaves : Renewed vlr answered kind count batch → Agrees (adds h (renew kind count batch)) next
+    renew-leaves r =
+        let sum = a .meets in
+        let held = r .held in
+        record {
+          low = h .total;
+          meets = omega arith;
+          size = size-is;
+          valid = valid;
+          shaped = shaped;
+          places = λ k lt. r .batch-held k (omega arith) ∙ item-is k (omega arith);
+          state = r .state;
+          out = r .out;
+          known = tt;
+          cleared = subst₂ (λ (ps : List ℕ) (low : ℕ). Cleared (leave dropped ps (h .gone)) low) (sym (unused-are h vlr a)) (a .meets)
+              (first-leave dropped (vlr .held) (h .gone) (a .low) (a .cleared));
+        }
 
   module _ (some-held : 0 < vlr .held) (s : Asks vlr answered) where
     oldest-is : oldest (unused h) ≡ some (a .low)
@@ -312,7 +332,7 @@ module _ (h : History) (vlr : Vlr) (a : Agrees h vlr) (answered : VlrAnswer) (va
     first-place = let here : a .low + 0 ≡ a .low = omega arith in a .places 0 some-held ∙ ap (placeAt (h .stored)) here
 
     oldest-leaves : Agrees (requests h (some (a .low))) next
-    unfolding isUnused isIn
+    unfolding leave
     oldest-leaves =
         let sum = a .meets in
         let fewer = s .held in
@@ -329,16 +349,7 @@ module _ (h : History) (vlr : Vlr) (a : Agrees h vlr) (answered : VlrAnswer) (va
           state = s .state;
           out = s .out ∙ first-place;
           known = omega arith;
-          rising = (a .earlier, a .rising);
-          gone = λ p lt. ⊎-elim
-              (λ e. rw (eq-eqb p (a .low) e) (used-now (leb (h .dropped) p) (isIn p (h .requested))))
-              (λ below. used-before (leb (h .dropped) p) (eqb p (a .low)) (isIn p (h .requested)) (a .gone p below))
-              (eq-or-lt-of-le (omega arith));
-          waiting = λ p le. rw (ne-eqb p (a .low) (λ e. omega arith)) (a .waiting p (omega arith));
-          earlier = (
-            omega arith,
-            each-map (λ q. q < a .low) (λ q. q < suc (a .low)) (λ q lt. omega arith) (h .requested) (a .earlier),
-          );
+          cleared = next-leaves requested (h .gone) (a .low) (a .cleared);
         }
 
     ask-leaves : Agrees (adds h ask) next
@@ -347,27 +358,27 @@ module _ (h : History) (vlr : Vlr) (a : Agrees h vlr) (answered : VlrAnswer) (va
     ask-gives : Gives ask h answered
     ask-gives =
         let sum = a .meets in
-        subst (λ (o : Option ℕ). OfVector h o (λ v. (answered .outcome ≡ node.done) × (given answered ≡ requestOf v))) (sym oldest-is)
-        (omega arith, (s .outcome, s .gives ∙ ap (λ (x : Octets). requestOf (readVector x)) first-place))
+        subst (λ (o : Option ℕ). OfRun h o (λ run. (answered .outcome ≡ node.done) × (given answered ≡ requestOf run))) (sym oldest-is)
+        (omega arith, (s .outcome, s .gives ∙ ap (λ (x : Octets). requestOf (runIn x)) first-place))
 
-  -- of the vector whose request is unanswered
-  of-out : vlr .state ≡ node.asked → (P : Vector → Type 0) → P (readVector (vlr .out)) → OfVector h (unanswered (h .phase)) P
+  -- of the item whose request is unanswered
+  of-out : vlr .state ≡ node.asked → (P : Run → Type 0) → P (runIn (vlr .out)) → OfRun h (unanswered (h .phase)) P
   of-out is P p = of-unanswered h (h .phase) (vlr .out) (sym (a .state) ∙ is) (a .known) (a .out) P p
 
-  follows : (call : Call) → Due (termsOf (vlr .state) (vlr .held) call) → Does vlr answered call
+  follows : (call : Call) → Due (termsOf (vlr .state) (vlr .held) (kindIn (vlr .out)) call) → Does vlr answered call
       → Gives call h answered × Agrees (adds h call) next
-  follows (store count batch) due s = ((s .outcome, s .gives), store-leaves count batch (due .part) s)
-  follows (renew count batch) due r = ((r .outcome, r .gives), renew-leaves count batch (due .part) r)
+  follows (store kind count batch) due s = ((s .outcome, s .gives), store-leaves kind count batch (due .part) s)
+  follows (renew kind count batch) due r = ((r .outcome, r .gives), renew-leaves kind count batch (due .part) r)
   follows ask due s = (ask-gives (due .held) s, ask-leaves (due .held) s)
   follows again due s = (
-    of-out (due .state) (λ v. (answered .outcome ≡ node.done) × (given answered ≡ requestOf v)) (s .outcome, s .gives),
+    of-out (due .state) (λ run. (answered .outcome ≡ node.done) × (given answered ≡ requestOf run)) (s .outcome, s .gives),
     subst (Agrees h) (sym (s .unchanged)) a,
   )
   follows (answer res) due s = (
     of-out (due .state) _ (record { right = s .right; wrong = λ other. let w = s .wrong other in (w .0, w .2) }),
     leaves idle refl tt (s .next),
   )
-  follows (sync auts) due s = (of-out (due .state) _ (s .outcome, s .gives), leaves resyncing refl tt (s .next))
+  follows (sync auts) due s = (of-out (due .state .0) _ (s .outcome, s .gives), leaves resyncing refl tt (s .next))
   follows reject due s = ((s .outcome, s .gives), leaves idle refl tt (s .next))
   follows timeout due s = ((s .outcome, s .gives), leaves idle refl tt (s .next))
   follows abandon due s = ((s .outcome, s .gives), leaves idle refl tt (s .next))
@@ -382,14 +393,18 @@ module _ (h : History) (vlr : Vlr) (a : Agrees h vlr) (call : Call) where
   law = laws vlr call
 
   -- which calls are taken, by the record and so by the history
-  taken-if : (isTaken (reply vlr call) ≡ true) ↔ Due (termsOf (stateOf (h .phase)) (length (unused h)) call)
+  taken-if : (isTaken (reply vlr call) ≡ true)
+      ↔ Due (termsOf (stateOf (h .phase)) (length (unused h)) (kindIn (outOf (h .stored) (h .phase))) call)
   taken-if = (
-    λ t. due (a .state) (held-is h vlr a) (law .not-refused .0 (eqb-true _ 0 t) .1),
-    λ d. eq-eqb _ 0 (law .not-refused .1 (a .valid, due (sym (a .state)) (sym (held-is h vlr a)) d)),
+    λ t. due (a .state) (held-is h vlr a) (a .out) (law .not-refused .0 (eqb-true _ 0 t) .1),
+    λ d. eq-eqb _ 0 (law .not-refused .1 (a .valid, due (sym (a .state)) (sym (held-is h vlr a)) (sym (a .out)) d)),
   )
     where
-      due : {s s′ : State} {n n′ : ℕ} → s ≡ s′ → n ≡ n′ → Due (termsOf s n call) → Due (termsOf s′ n′ call)
-      due e f d = subst₂ (λ (t : State) (m : ℕ). Due (termsOf t m call)) e f d
+      due : {s s′ : State} {n n′ : ℕ} {o o′ : Octets} → s ≡ s′ → n ≡ n′ → o ≡ o′ → Due (termsOf s n (kindIn o) call)
+          → Due (termsOf s′ n′ (kindIn o′) call)
+      due {s} {s′} {n} {n′} {o} {o′} e f g d =
+          subst (λ (x : Octets). Due (termsOf s′ n′ (kindIn x) call)) g
+          (subst₂ (λ (t : State) (m : ℕ). Due (termsOf t m (kindIn o) call)) e f d)
 
   meets : Agrees (after h handled) (reply vlr call .vlr) → (isTaken (reply vlr call) ≡ true → Gives call h (reply vlr call))
       → (isTaken (reply vlr call) ≡ false → given (reply vlr call) ≡ nothing) → Meets h handled
@@ -397,7 +412,7 @@ module _ (h : History) (vlr : Vlr) (a : Agrees h vlr) (call : Call) where
     taken = taken-if;
     gives = gives;
     refused = refused;
-    rising = b .rising;
+    rising = b .cleared .rising;
     keeps = record-is (after h handled) (reply vlr call .vlr) b;
     valid = b .valid;
   }

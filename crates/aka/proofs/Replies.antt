@@ -6,24 +6,25 @@ use mathlib.Core.Logic.{_↔_}
 use mathlib.Core.Path.{_≡_, refl, sym, ap, _∙_, subst}
 use native.Mathlib.Omega.{arith}
 use Rattle.aka.specs.Vlr.{Vlr, VlrAnswer, Outcome, done, passed, cause, refused, refusalOf, causeOf, validVlr, refusalOr, noOctets}
-use Rattle.aka.specs.Vlr.{unlessRefused}
+use Rattle.aka.specs.Vlr.{unlessRefused, kindIn}
 use Rattle.aka.specs.Calls.{Call}
 use Rattle.aka.specs.VlrLaws.{VlrShaped, Terms, termsOf, Due, Does, VlrLaws}
 use Rattle.aka.proofs.VlrRecords.{Valid, valid-true, true-valid}
 
 -- the tests of a refusal chain say what document 01 names
-pub record Tests (t : Terms) (c p s : Bool) (rest : ℕ) : Type 0 where
+pub record Tests (t : Terms) (c p g s : Bool) (rest : ℕ) : Type 0 where
   pub count : (c ≡ true) ↔ t .count
   pub part : (p ≡ true) ↔ t .part
+  pub contents : (g ≡ true) ↔ t .contents
   pub state : (s ≡ true) ↔ t .state
   pub held : (rest ≡ 0) ↔ t .held
 
 -- an answer without refusal does what document 01 says of the call
 pub record Taken (vlr : Vlr) (call : Call) (a : VlrAnswer) : Type 0 where
   pub number : refusalOf (a .outcome) ≡ 0
-  pub does : VlrShaped vlr → Valid vlr → Due (termsOf (vlr .state) (vlr .held) call) → Does vlr a call
-  pub valid : VlrShaped vlr → Valid vlr → Due (termsOf (vlr .state) (vlr .held) call) → Valid (a .vlr)
-  pub shaped : VlrShaped vlr → Valid vlr → Due (termsOf (vlr .state) (vlr .held) call) → VlrShaped (a .vlr)
+  pub does : VlrShaped vlr → Valid vlr → Due (termsOf (vlr .state) (vlr .held) (kindIn (vlr .out)) call) → Does vlr a call
+  pub valid : VlrShaped vlr → Valid vlr → Due (termsOf (vlr .state) (vlr .held) (kindIn (vlr .out)) call) → Valid (a .vlr)
+  pub shaped : VlrShaped vlr → Valid vlr → Due (termsOf (vlr .state) (vlr .held) (kindIn (vlr .out)) call) → VlrShaped (a .vlr)
 
 -- a test that says P is false where P is
 refute : (b : Bool) (P : Type 0) → (b ≡ true) ↔ P → (P → ⊥) → b ≡ false
@@ -31,18 +32,19 @@ refute true P says other = absurd (other (says .0 refl))
 refute false P says other = refl
 
 -- no refusal: every test passes
-pub clear : (vlr : Vlr) (c p s : Bool) (rest : ℕ) → refusalOr vlr c p s rest ≡ 0
-    → (validVlr vlr ≡ true) × (c ≡ true) × (p ≡ true) × (s ≡ true) × (rest ≡ 0)
+pub clear : (vlr : Vlr) (c p g s : Bool) (rest : ℕ) → refusalOr vlr c p g s rest ≡ 0
+    → (validVlr vlr ≡ true) × (c ≡ true) × (p ≡ true) × (g ≡ true) × (s ≡ true) × (rest ≡ 0)
 unfolding refusalOr
-clear vlr c p s rest e = go (validVlr vlr) refl c p s e
+clear vlr c p g s rest e = go (validVlr vlr) refl c p g s e
   where
-    go : (v : Bool) → validVlr vlr ≡ v → (c p s : Bool) → refusalOr vlr c p s rest ≡ 0
-        → (validVlr vlr ≡ true) × (c ≡ true) × (p ≡ true) × (s ≡ true) × (rest ≡ 0)
-    go false v c p s e = let z : _≡_ {A = ℕ} 1 0 = rw v at e in absurd (omega arith)
-    go true v false p s e = let z : _≡_ {A = ℕ} 2 0 = rw v at e in absurd (omega arith)
-    go true v true false s e = let z : _≡_ {A = ℕ} 3 0 = rw v at e in absurd (omega arith)
-    go true v true true false e = let z : _≡_ {A = ℕ} 7 0 = rw v at e in absurd (omega arith)
-    go true v true true true e = (v, refl, refl, refl, rw v at e)
+    go : (v : Bool) → validVlr vlr ≡ v → (c p g s : Bool) → refusalOr vlr c p g s rest ≡ 0
+        → (validVlr vlr ≡ true) × (c ≡ true) × (p ≡ true) × (g ≡ true) × (s ≡ true) × (rest ≡ 0)
+    go false v c p g s e = let z : _≡_ {A = ℕ} 1 0 = rw v at e in absurd (omega arith)
+    go true v false p g s e = let z : _≡_ {A = ℕ} 2 0 = rw v at e in absurd (omega arith)
+    go true v true false g s e = let z : _≡_ {A = ℕ} 3 0 = rw v at e in absurd (omega arith)
+    go true v true true false s e = let z : _≡_ {A = ℕ} 1 0 = rw v at e in absurd (omega arith)
+    go true v true true true false e = let z : _≡_ {A = ℕ} 7 0 = rw v at e in absurd (omega arith)
+    go true v true true true true e = (v, refl, refl, refl, refl, rw v at e)
 
 -- an outcome that is no cause has the cause 0
 no-cause : (o : Outcome) → ((n : ℕ) → o ≡ cause n → ⊥) → causeOf o ≡ 0
@@ -51,10 +53,10 @@ no-cause passed h = refl
 no-cause (cause n) h = absurd (h n refl)
 no-cause (refused n) h = refl
 
-module _ (vlr : Vlr) (call : Call) {c p s : Bool} {rest : ℕ} {a : VlrAnswer}
-    (tests : Tests (termsOf (vlr .state) (vlr .held) call) c p s rest) (taken : Taken vlr call a) where
+module _ (vlr : Vlr) (call : Call) {c p g s : Bool} {rest : ℕ} {a : VlrAnswer}
+    (tests : Tests (termsOf (vlr .state) (vlr .held) (kindIn (vlr .out)) call) c p g s rest) (taken : Taken vlr call a) where
   abbrev refusal : ℕ
-  refusal = refusalOr vlr c p s rest
+  refusal = refusalOr vlr c p g s rest
 
   abbrev answered : VlrAnswer
   answered = unlessRefused vlr refusal a
@@ -84,20 +86,22 @@ module _ (vlr : Vlr) (call : Call) {c p s : Bool} {rest : ℕ} {a : VlrAnswer}
       go zero e = none e
       go (suc n) e = some n e
 
-  passing : refusal ≡ 0 → (validVlr vlr ≡ true) × Due (termsOf (vlr .state) (vlr .held) call)
+  passing : refusal ≡ 0 → (validVlr vlr ≡ true) × Due (termsOf (vlr .state) (vlr .held) (kindIn (vlr .out)) call)
   passing e =
-      let all = clear vlr c p s rest e in (
+      let all = clear vlr c p g s rest e in (
         all .0,
         record {
           count = tests .count .0 (all .1);
           part = tests .part .0 (all .2);
-          state = tests .state .0 (all .3);
-          held = tests .held .0 (all .4);
+          contents = tests .contents .0 (all .3);
+          state = tests .state .0 (all .4);
+          held = tests .held .0 (all .5);
         },
       )
 
   -- a refused call leaves the record
-  next : (P : Vlr → Type 0) → P vlr → (Valid vlr → Due (termsOf (vlr .state) (vlr .held) call) → P (a .vlr)) → P (answered .vlr)
+  next : (P : Vlr → Type 0) → P vlr → (Valid vlr → Due (termsOf (vlr .state) (vlr .held) (kindIn (vlr .out)) call) → P (a .vlr))
+      → P (answered .vlr)
   next P here after = either (P (answered .vlr))
       (λ e. subst P (sym (ap (λ (x : VlrAnswer). x .vlr) (as-taken e))) (after (valid-true vlr (passing e .0)) (passing e .1)))
       (λ n e. subst P (sym (ap (λ (x : VlrAnswer). x .vlr) (as-refused n e))) here)
@@ -108,14 +112,17 @@ module _ (vlr : Vlr) (call : Call) {c p s : Bool} {rest : ℕ} {a : VlrAnswer}
     refusal1 = λ bad. is-refused 0 (rw bad);
     refusal2 = λ v bad. is-refused 1 (rw (v, refute c _ (tests .count) bad));
     refusal3 = λ v n bad. is-refused 2 (rw (v, tests .count .1 n, refute p _ (tests .part) bad));
-    refusal7 = λ v n l bad. is-refused 6 (rw (v, tests .count .1 n, tests .part .1 l, refute s _ (tests .state) bad));
+    contents1 = λ v n l bad. is-refused 0 (rw (v, tests .count .1 n, tests .part .1 l, refute g _ (tests .contents) bad));
+    refusal7 = λ v n l h bad.
+        is-refused 6 (rw (v, tests .count .1 n, tests .part .1 l, tests .contents .1 h, refute s _ (tests .state) bad));
     not-refused = (
       λ none. either _ passing (λ n e. absurd (not-taken n e none)),
       λ d.
           let due = d .1 in
           let count = tests .count .1 (due .count) in
           let part = tests .part .1 (due .part) in
-          is-taken (rw (d .0, count, part, tests .state .1 (due .state)) (tests .held .1 (due .held))),
+          let contents = tests .contents .1 (due .contents) in
+          is-taken (rw (d .0, count, part, contents, tests .state .1 (due .state)) (tests .held .1 (due .held))),
     );
     number = λ n e. ap refusalOf e;
     stays = λ number. either _ (λ e. absurd (number (is-taken e)))

@@ -5,7 +5,8 @@ use mathlib.Core.Logic.{inl}
 use mathlib.Core.Path.{_≡_, refl, sym, ap, _∙_}
 use native.Mathlib.Omega.{arith}
 use Rattle.octets.specs.Octets.{Octets, zeros}
-use Rattle.aka.specs.Vlr.{Vlr, VlrAnswer, newVlr, noVector}
+use Rattle.aka.specs.Layout.{vector, vectorSize}
+use Rattle.aka.specs.Vlr.{Vlr, VlrAnswer, newVlr}
 use Rattle.aka.specs.Calls.{Call, reply, store, renew, ask, again, answer, sync, reject, timeout, abandon}
 use Rattle.aka.specs.Demand3.{Each}
 use Rattle.aka.specs.VlrLaws.{Given, given, nothing}
@@ -17,17 +18,17 @@ use Rattle.aka.specs.OrderOfUse.{OrderOfUse}
 pub refuses-all : (node : Vlr → Call → VlrAnswer) → ((vlr : Vlr) (call : Call) → isTaken (node vlr call) ≡ false) → OrderOfUse node → ⊥
 unfolding InOrder answers unusedFrom
 refuses-all node refuses order =
-    let first = order (store 1 noVector ∷ []) .0 in
+    let first = order (store vector 1 (zeros vectorSize) ∷ []) .0 in
     false≢true (
-    sym (refuses newVlr (store 1 noVector))
-    ∙ first .taken .1 (record { count = (omega arith, omega arith); part = refl; state = inl refl; held = omega arith }))
+    sym (refuses newVlr (store vector 1 (zeros vectorSize)))
+    ∙ first .taken .1 (record { count = (omega arith, omega arith); part = refl; contents = refl; state = inl refl; held = omega arith }))
 
 -- ---- a call that gives no octet gives none, at whatever point of whatever list
 
 -- Store, Renew, Reject, Timeout and Abandon
 abbrev silent : Call → Bool
-silent (store count batch) = true
-silent (renew count batch) = true
+silent (store kind count batch) = true
+silent (renew kind count batch) = true
 silent ask = false
 silent again = false
 silent (answer res) = false
@@ -37,8 +38,8 @@ silent timeout = true
 silent abandon = true
 
 gives-none : (call : Call) (h : History) (a : VlrAnswer) → silent call ≡ true → Gives call h a → given a ≡ nothing
-gives-none (store count batch) h a s g = g .1
-gives-none (renew count batch) h a s g = g .1
+gives-none (store kind count batch) h a s g = g .1
+gives-none (renew kind count batch) h a s g = g .1
 gives-none ask h a s g = absurd (false≢true s)
 gives-none again h a s g = absurd (false≢true s)
 gives-none (answer res) h a s g = absurd (false≢true s)
@@ -66,8 +67,8 @@ gives-no-octet node order calls = each-silent nothingYet (answers node newVlr ca
 -- so a node that answers as it should, but whose Abandon hands out some RAND and AUTN, does not meet the statement
 module _ (rand autn : Octets) where
   abbrev leaking : Vlr → Call → VlrAnswer
-  leaking vlr (store count batch) = reply vlr (store count batch)
-  leaking vlr (renew count batch) = reply vlr (renew count batch)
+  leaking vlr (store kind count batch) = reply vlr (store kind count batch)
+  leaking vlr (renew kind count batch) = reply vlr (renew kind count batch)
   leaking vlr ask = reply vlr ask
   leaking vlr again = reply vlr again
   leaking vlr (answer res) = reply vlr (answer res)
@@ -76,10 +77,10 @@ module _ (rand autn : Octets) where
   leaking vlr timeout = reply vlr timeout
   leaking vlr abandon =
       let a = reply vlr abandon in
-      record { outcome = a .outcome; vlr = a .vlr; rand = rand; autn = autn; auts = a .auts; ck = a .ck; ik = a .ik }
+      record { outcome = a .outcome; vlr = a .vlr; rand = rand; autn = autn; auts = a .auts; ck = a .ck; ik = a .ik; kc = a .kc }
 
   pub leaks : (rand ≡ zeros 16 → ⊥) → OrderOfUse leaking → ⊥
   unfolding answers
   leaks other order =
-      let last = gives-no-octet leaking order (store 1 noVector ∷ ask ∷ abandon ∷ []) .1 .1 .0 refl in
+      let last = gives-no-octet leaking order (store vector 1 (zeros vectorSize) ∷ ask ∷ abandon ∷ []) .1 .1 .0 refl in
       other (ap (λ (g : Given). g .rand) last)

@@ -3,12 +3,12 @@ use Prim.Native.Nat.{ℕ, suc, _+_, _-_, _≤_, _<_}
 use mathlib.Core.Bool.{true, false}
 use mathlib.Core.List.{[], _++_}
 use mathlib.Core.Path.{_≡_, refl}
-use native.Mathlib.Numerals.{add-one}
 use native.Mathlib.Omega.{arith}
 use Rattle.octets.specs.Octets.{Octets, equal}
 use Rattle.aka.specs.Layout.{randAt, writeVector, joined}
 use Rattle.aka.specs.Functions.{Family}
 use Rattle.aka.specs.Auc.{Auc, unequal, equalAt, pairWith, pairFrom, vectorFrom, batchFrom}
+use Rattle.aka.proofs.Layouts.{joined-next}
 
 -- ---- the earliest pair among n RANDs
 
@@ -49,5 +49,5 @@ module _ (w : ℕ) (family : Family) (auc : Auc) (from : ℕ) (rands : Octets) w
   pub batch-next : (k : ℕ)
       → batchFrom w family auc from rands (k + 1)
       ≡ batchFrom w family auc from rands k ++ writeVector (vectorFrom w family auc from rands k)
-  unfolding batchFrom joined
-  batch-next k = rw (add-one k)
+  unfolding batchFrom
+  batch-next k = joined-next (λ j. writeVector (vectorFrom w family auc from rands j)) k

@@ -1,5 +1,5 @@
--- How AUTN, AUTS, a vector and a handset's answer lie in octets: sizes and places, writing and reading; and the parts of lent octets.
--- TS 33.102 §6.3.2 and §6.3.3; document 01, 'Numbers and records'; document 02, #101. Assumes nothing.
+-- How AUTN, AUTS, a vector, a triplet and a handset's answer lie in octets: sizes and places, writing and reading; and the parts of lent
+-- octets. TS 33.102 §6.3.2, §6.3.3 and §6.8; document 01, 'Numbers and records'; document 02, #101 and #102. Assumes nothing.
 use Prim.Native.Nat.{ℕ, zero, suc, _+_, _*_, _/_, _%_}
 use mathlib.Core.Bool.{Bool, _&&_, cond}
 use mathlib.Core.List.{[], _++_}
@@ -120,6 +120,50 @@ readVector x = record {
   autn = part autnAt autnSize x;
 }
 
+-- ---- a triplet, for a GSM phone: RAND, SRES, Kc
+
+abbrev pub sresSize : ℕ
+sresSize = 4
+
+abbrev pub kcSize : ℕ
+kcSize = 8
+
+-- where its parts begin, and its size: 28 octets
+abbrev pub sresAt : ℕ
+sresAt = randSize
+
+abbrev pub kcAt : ℕ
+kcAt = sresAt + sresSize
+
+abbrev pub tripletSize : ℕ
+tripletSize = kcAt + kcSize
+
+pub record Triplet : Type 0 where
+  pub rand : Octets
+  pub sres : Octets
+  pub kc : Octets
+
+unfoldable pub writeTriplet : Triplet → Octets
+writeTriplet t = t .rand ++ (t .sres ++ t .kc)
+
+unfoldable pub readTriplet : Octets → Triplet
+readTriplet x = record { rand = part 0 randSize x; sres = part sresAt sresSize x; kc = part kcAt kcSize x }
+
+-- ---- the two kinds: a vector or a triplet
+
+pub data Kind : Type 0 where
+  vector triplet : Kind
+
+-- the octet that names the kind
+abbrev pub kindOctet : Kind → ℕ
+kindOctet vector = 0
+kindOctet triplet = 1
+
+-- an item is a vector or a triplet
+abbrev pub itemSize : Kind → ℕ
+itemSize vector = vectorSize
+itemSize triplet = tripletSize
+
 -- ---- the answer of a handset: RES, CK, IK; and what its store has: RAND, and the answer behind it
 
 abbrev pub answerSize : ℕ  -- 40
@@ -149,12 +193,13 @@ octetsAt batch k = part (vectorSize * k) vectorSize batch
 abbrev pub vectorAt : Octets → ℕ → Vector
 vectorAt batch k = readVector (octetsAt batch k)
 
--- refusal 3 does not apply to place k of a batch of `size` octets: it has one to five whole vectors, and k is a place of theirs
+-- a batch of `size` octets has one to five whole vectors
+abbrev pub isBatch : (size : ℕ) → Bool
+isBatch size = leb vectorSize size && leb size (vectorSize * mostVectors) && eqb (size % vectorSize) 0
+
+-- refusal 3 does not apply to place k of a batch of `size` octets: k is a place of its vectors
 unfoldable pub isPlace : (size k : ℕ) → Bool
-isPlace size k =
-    leb vectorSize size && leb size (vectorSize * mostVectors)
-    && eqb (size % vectorSize) 0
-    && ltb k (size / vectorSize)
+isPlace size k = isBatch size && ltb k (size / vectorSize)
 
 -- where the vector at place k begins in a batch of `size` octets; none stands for refusal 3
 unfoldable pub vectorOffset : (size k : ℕ) → Option ℕ

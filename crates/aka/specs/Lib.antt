@@ -1,16 +1,17 @@
 -- Authentication and key agreement (TS 33.102 §6.3) on paper: what USIM, AuC, VLR and handset do, and what is promised of them. Read in
 -- this order:
---   Layout      octets of AUTN, AUTS and a vector; parts of lent octets
+--   Layout      octets of AUTN, AUTS, a vector and a triplet; parts of lent octets
 --   Functions   f1 to f5*, the keys, and the laws of a family of function sets
 --   Sequence    SQN, SEQ, IND, the limit, D
 --   Usim        the card: its record and its answer to a challenge
 --   Auc         the centre: its record, an order, a resynchronisation
+--   Triplets    vectors made into triplets, for GSM phones (document 02, #102)
 --   Vlr         the node: its record and its nine operations
 --   Calls       the nine operations of the node as one
 --   Demand3     after a synchronisation failure and a resynchronisation the USIM accepts the new batch
 --   Table       the worked table of document 01
 --   UsimLaws, AucLaws, VlrLaws    the other sentences of document 01 on card, centre and node, as laws
---   OrderOfUse  over every list of calls the node uses each vector once, oldest first, and holds what was stored and not used
+--   OrderOfUse  over every list of calls the node uses each vector and triplet once, oldest first, and holds what was stored and not used
 --   Handset     the phone: its store, and its answer to a challenge (document 02, #101)
 --   HandsetLaws the sentences of document 02 on it, as laws
 --   RepeatedChallenge  over every list of calls at a phone a RAND that comes again is answered again, until the store is cleared or
@@ -40,6 +41,7 @@ pub mod Functions
 pub mod Sequence
 pub mod Usim
 pub mod Auc
+pub mod Triplets
 pub mod Vlr
 pub mod Calls
 pub mod Demand3
@@ -47,6 +49,7 @@ pub mod Table
 pub mod UsimLaws
 pub mod AucLaws
 pub mod VlrLaws
+pub mod TripletLaws
 pub mod OrderOfUse
 pub mod Handset
 pub mod HandsetLaws

@@ -1,24 +1,26 @@
--- The order of use at one VLR, over every list of calls (demand 2): the node takes each vector once, in the order received; only an
--- unanswered request is repeated. Document 01, 'What the node does' and 'How far each statement reaches'. Assumes nothing.
+-- The order of use at one VLR, over every list of calls (demand 2): the node takes each vector and each triplet once, all in the order
+-- received; only an unanswered request is repeated. Document 01, 'What the node does' and 'How far each statement reaches'; document 02,
+-- #102. Assumes nothing.
 --
 -- The calls that were taken tell a history, and the history alone tells everything else: which call the node must take and which it must
 -- refuse, every octet that it gives, and its whole record. Read `History`, `adds` (what a call does to it) and `Meets` (what is promised
 -- of one call).
 use Prim.Native.Nat.{ℕ, zero, suc, _+_, _-_, _*_, _<_}
-use mathlib.Core.Bool.{Bool, true, false, _&&_, _||_, not, cond}
-use mathlib.Core.List.{List, [], _∷_, _++_}
+use mathlib.Core.Bool.{Bool, true, false, _||_, not, cond}
+use mathlib.Core.List.{List, [], _∷_, _++_, map}
 use mathlib.Core.Logic.{_↔_}
 use mathlib.Core.Option.{Option, none, some}
 use mathlib.Core.Path.{_≡_}
-use lib.Dec.{eqb, leb}
+use lib.Dec.{eqb}
 use lib.ListN.{length}
 use Rattle.octets.specs.Octets.{Octets, zeros}
-use Rattle.aka.specs.Layout.{Vector, readVector}
-use Rattle.aka.specs.Vlr.{Vlr, VlrAnswer, done, passed, cause, refusalOf, mostHeld, placeSize, noVector, newVlr, validVlr}
+use Rattle.aka.specs.Layout.{Kind}
+use Rattle.aka.specs.Vlr.{Vlr, VlrAnswer, done, passed, cause, refusalOf, mostHeld, placeSize, noItem, newVlr, validVlr}
+use Rattle.aka.specs.Vlr.{placeAt, placesOf, kindIn, Run, runIn}
 use Rattle.aka.specs.Vlr as node
 use Rattle.aka.specs.Calls.{Call, store, renew, ask, again, answer, sync, reject, timeout, abandon}
 use Rattle.aka.specs.Demand3.{Each}
-use Rattle.aka.specs.VlrLaws.{placeAt, termsOf, Due, given, nothing, requestOf, failureOf, keysOf}
+use Rattle.aka.specs.VlrLaws.{termsOf, Due, given, nothing, requestOf, failureOf, keysOf}
 
 -- ---- what has happened so far
 
@@ -28,31 +30,41 @@ pub data Phase : Type 0 where
   asked : (position : ℕ) → Phase
   resyncing : Phase
 
+-- how an item leaves the places: Ask takes the oldest, Renew drops all that are held
+pub data Way : Type 0 where
+  requested dropped : Way
+
+pub record Gone : Type 0 where
+  pub position : ℕ
+  pub way : Way
+
 pub record History : Type 0 where
-  -- every vector ever stored, by Store or Renew, one behind the other in that order: the first is at position 0
+  -- every item ever stored, by Store or Renew, in its place, one behind the other in that order: the first is at position 0
   pub stored : Octets
   pub total : ℕ  -- how many they are
-  pub dropped : ℕ  -- how many had been stored when Renew last dropped all that were held; 0 before the first Renew
-  pub requested : List ℕ  -- the positions asked, the latest first
+  pub gone : List Gone  -- those that have left, the latest first
   pub phase : Phase
 
 abbrev pub nothingYet : History
-nothingYet = record { stored = []; total = 0; dropped = 0; requested = []; phase = idle }
+nothingYet = record { stored = []; total = 0; gone = []; phase = idle }
+
+abbrev pub positions : List Gone → List ℕ
+positions gone = map (λ g. g .position) gone
 
 unfoldable pub isIn : ℕ → List ℕ → Bool
 isIn p [] = false
 isIn p (q ∷ rest) = eqb p q || isIn p rest
 
--- the vector at this position was neither dropped nor asked
+-- the item at this position has not left
 unfoldable pub isUnused : History → (position : ℕ) → Bool
-isUnused h p = leb (h .dropped) p && not (isIn p (h .requested))
+isUnused h p = not (isIn p (positions (h .gone)))
 
 -- the unused ones among the positions p, p + 1, .. (`left` of them)
 unfoldable pub unusedFrom : History → (p left : ℕ) → List ℕ
 unusedFrom h p zero = []
 unusedFrom h p (suc left) = cond (isUnused h p) (p ∷ unusedFrom h (suc p) left) (unusedFrom h (suc p) left)
 
--- the positions of all vectors that were stored, not dropped and not asked, in the order of storing
+-- the positions of all items that were stored and have not left, in the order of storing
 abbrev pub unused : History → List ℕ
 unused h = unusedFrom h 0 (h .total)
 
@@ -71,30 +83,32 @@ unanswered resyncing = none
 
 -- another phase
 abbrev pub enters : History → Phase → History
-enters h phase = record { stored = h .stored; total = h .total; dropped = h .dropped; requested = h .requested; phase = phase }
+enters h phase = record { stored = h .stored; total = h .total; gone = h .gone; phase = phase }
 
-abbrev pub stores : History → (count : ℕ) (batch : Octets) (dropped : ℕ) (phase : Phase) → History
-stores h count batch dropped phase = record {
-  stored = h .stored ++ batch;
+-- the items of a batch, behind all that were stored before
+abbrev pub stores : History → Kind → (count : ℕ) (batch : Octets) → History
+stores h kind count batch = record {
+  stored = h .stored ++ placesOf kind batch count;
   total = h .total + count;
-  dropped = dropped;
-  requested = h .requested;
-  phase = phase;
+  gone = h .gone;
+  phase = h .phase;
 }
+
+-- the items at these positions, the first of them first, leave in one way
+unfoldable pub leave : Way → List ℕ → List Gone → List Gone
+leave way [] gone = gone
+leave way (p ∷ rest) gone = leave way rest (record { position = p; way = way } ∷ gone)
+
+abbrev pub leaves : History → Way → List ℕ → Phase → History
+leaves h way ps phase = record { stored = h .stored; total = h .total; gone = leave way ps (h .gone); phase = phase }
 
 abbrev pub requests : History → Option ℕ → History
 requests h none = h
-requests h (some p) = record {
-  stored = h .stored;
-  total = h .total;
-  dropped = h .dropped;
-  requested = p ∷ h .requested;
-  phase = asked p;
-}
+requests h (some p) = leaves h requested (p ∷ []) (asked p)
 
 abbrev pub adds : History → Call → History
-adds h (store count batch) = stores h count batch (h .dropped) (h .phase)
-adds h (renew count batch) = stores h count batch (h .total) idle
+adds h (store kind count batch) = stores h kind count batch
+adds h (renew kind count batch) = stores (leaves h dropped (unused h) idle) kind count batch
 adds h ask = requests h (oldest (unused h))
 adds h again = h
 adds h (answer res) = enters h idle
@@ -122,48 +136,48 @@ stateOf idle = node.idle
 stateOf (asked p) = node.asked
 stateOf resyncing = node.resyncing
 
--- the vectors at some positions, one behind the other
-unfoldable pub vectorsAt : (stored : Octets) (positions : List ℕ) → Octets
-vectorsAt stored [] = []
-vectorsAt stored (p ∷ rest) = placeAt stored p ++ vectorsAt stored rest
+-- the places at some positions, one behind the other
+unfoldable pub placesAt : (stored : Octets) (positions : List ℕ) → Octets
+placesAt stored [] = []
+placesAt stored (p ∷ rest) = placeAt stored p ++ placesAt stored rest
 
--- the outstanding vector is the one whose request is unanswered
+-- the outstanding item is the one whose request is unanswered
 abbrev pub outOf : (stored : Octets) → Phase → Octets
-outOf stored idle = noVector
+outOf stored idle = noItem
 outOf stored (asked p) = placeAt stored p
-outOf stored resyncing = noVector
+outOf stored resyncing = noItem
 
--- what is held is what was stored, not asked and not dropped, oldest first; the places behind are zero
+-- what is held is what was stored and has not left, oldest first; the places behind are zero
 abbrev pub recordOf : History → Vlr
 recordOf h = record {
   state = stateOf (h .phase);
   held = length (unused h);
-  queue = vectorsAt (h .stored) (unused h) ++ zeros (placeSize * (mostHeld - length (unused h)));
+  queue = placesAt (h .stored) (unused h) ++ zeros (placeSize * (mostHeld - length (unused h)));
   out = outOf (h .stored) (h .phase);
 }
 
 -- ---- what a call that is taken answers
 
--- there is such a position, its vector was stored, and it is so of that vector
-abbrev pub OfVector : History → Option ℕ → (Vector → Type 0) → Type 0
-OfVector h none P = ⊥
-OfVector h (some p) P = (p < h .total) × P (readVector (placeAt (h .stored) p))
+-- there is such a position, its item was stored, and it is so of the run with that item
+abbrev pub OfRun : History → Option ℕ → (Run → Type 0) → Type 0
+OfRun h none P = ⊥
+OfRun h (some p) P = (p < h .total) × P (runIn (placeAt (h .stored) p))
 
--- RES equal to XRES passes with CK and IK, another has cause 2
-pub record Compared (v : Vector) (res : Octets) (a : VlrAnswer) : Type 0 where
-  pub right : res ≡ v .xres → (a .outcome ≡ passed) × (given a ≡ keysOf v)
-  pub wrong : (res ≡ v .xres → ⊥) → (a .outcome ≡ cause 2) × (given a ≡ nothing)
+-- a response equal to the run's passes with its keys, another has cause 2
+pub record Compared (run : Run) (res : Octets) (a : VlrAnswer) : Type 0 where
+  pub right : res ≡ run .response → (a .outcome ≡ passed) × (given a ≡ keysOf run)
+  pub wrong : (res ≡ run .response → ⊥) → (a .outcome ≡ cause 2) × (given a ≡ nothing)
 
--- Ask gives the request of the oldest vector that is unused; Again, Answer and Sync are about the one whose request is unanswered; no other
+-- Ask gives the request of the oldest item that is unused; Again, Answer and Sync are about the one whose request is unanswered; no other
 -- call gives an octet
 abbrev pub Gives : Call → (before : History) → VlrAnswer → Type 0
-Gives ask h a = OfVector h (oldest (unused h)) (λ v. (a .outcome ≡ done) × (given a ≡ requestOf v))
-Gives again h a = OfVector h (unanswered (h .phase)) (λ v. (a .outcome ≡ done) × (given a ≡ requestOf v))
-Gives (answer res) h a = OfVector h (unanswered (h .phase)) (λ v. Compared v res a)
-Gives (sync auts) h a = OfVector h (unanswered (h .phase)) (λ v. (a .outcome ≡ done) × (given a ≡ failureOf v auts))
+Gives ask h a = OfRun h (oldest (unused h)) (λ run. (a .outcome ≡ done) × (given a ≡ requestOf run))
+Gives again h a = OfRun h (unanswered (h .phase)) (λ run. (a .outcome ≡ done) × (given a ≡ requestOf run))
+Gives (answer res) h a = OfRun h (unanswered (h .phase)) (λ run. Compared run res a)
+Gives (sync auts) h a = OfRun h (unanswered (h .phase)) (λ run. (a .outcome ≡ done) × (given a ≡ failureOf run auts))
 Gives reject h a = (a .outcome ≡ cause 1) × (given a ≡ nothing)
-Gives (store count batch) h a = (a .outcome ≡ done) × (given a ≡ nothing)
-Gives (renew count batch) h a = (a .outcome ≡ done) × (given a ≡ nothing)
+Gives (store kind count batch) h a = (a .outcome ≡ done) × (given a ≡ nothing)
+Gives (renew kind count batch) h a = (a .outcome ≡ done) × (given a ≡ nothing)
 Gives timeout h a = (a .outcome ≡ done) × (given a ≡ nothing)
 Gives abandon h a = (a .outcome ≡ done) × (given a ≡ nothing)
 
@@ -175,13 +189,15 @@ Rising [] = Unit {0}
 Rising (p ∷ earlier) = Each (λ q. q < p) earlier × Rising earlier
 
 pub record Meets (h : History) (x : Handled) : Type 0 where
-  -- a call is taken exactly if it is named for the state, rightly counted and sized, and Store has room, Ask an unused vector
-  pub taken : (isTaken (x .answer) ≡ true) ↔ Due (termsOf (stateOf (h .phase)) (length (unused h)) (x .call))
+  -- a call is taken exactly if it is named for the state and for what is out, rightly counted and sized, and Store has room, Ask an
+  -- unused item
+  pub taken : (isTaken (x .answer) ≡ true)
+      ↔ Due (termsOf (stateOf (h .phase)) (length (unused h)) (kindIn (outOf (h .stored) (h .phase))) (x .call))
   pub gives : isTaken (x .answer) ≡ true → Gives (x .call) h (x .answer)
   -- a refused call gives no octet
   pub refused : isTaken (x .answer) ≡ false → given (x .answer) ≡ nothing
-  -- the positions asked rise strictly: none is asked twice, and none after a later one
-  pub rising : Rising (after h x .requested)
+  -- the positions that leave rise strictly: none is asked twice, none after a later one, and none that was dropped
+  pub rising : Rising (positions (after h x .gone))
   -- the next record
   pub keeps : x .answer .vlr ≡ recordOf (after h x)
   pub valid : validVlr (x .answer .vlr) ≡ true

@@ -63,6 +63,18 @@ pub const AUTN_AT: usize = IK_AT + IK_SIZE;
 
 pub const VECTOR_SIZE: usize = AUTN_AT + AUTN_SIZE;
 
+// ---- a triplet, for a GSM phone: RAND stands first
+
+pub const SRES_SIZE: usize = 4;
+
+pub const KC_SIZE: usize = 8;
+
+pub const SRES_AT: usize = RAND_SIZE;
+
+pub const KC_AT: usize = SRES_AT + SRES_SIZE;
+
+pub const TRIPLET_SIZE: usize = KC_AT + KC_SIZE;
+
 // ---- the handset: its answer has RES, CK and IK; its store has RAND, and the answer behind it
 
 // Where CK and IK begin in an answer.
@@ -87,10 +99,10 @@ pub const DEFAULT_COUNT: u8 = 5;
 
 // ---- the node (specs/Vlr)
 
-// The most vectors held.
+// The most items held, vectors and triplets together.
 pub const MOST_HELD: usize = 16;
 
-// The octets of a place, held or outstanding, and of all places.
-pub const PLACE_SIZE: usize = VECTOR_SIZE;
+// The octets of a place, held or outstanding: the kind, then room for either kind's item. And of all places.
+pub const PLACE_SIZE: usize = 1 + VECTOR_SIZE;
 
 pub const QUEUE_SIZE: usize = PLACE_SIZE * MOST_HELD;

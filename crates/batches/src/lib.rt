@@ -9,7 +9,7 @@ ghost use lib.ListN.{length, take, drop};
 ghost use Rattle.aes_tables.specs.RoundTable.{IsRoundTable};
 ghost use Rattle.functions.specs.Challenge.{keysOf, IsSchedule};
 ghost use Rattle.functions.specs.Sets.{sets};
-ghost use Rattle.aka.specs.Layout.{randSize, vectorSize, mostVectors, writeVector, vectorOffset, vectorPart};
+ghost use Rattle.aka.specs.Layout.{randSize, vectorSize, mostVectors, writeVector, isBatch, vectorOffset, vectorPart};
 ghost use Rattle.aka.specs.Sequence.{width, indices, limit};
 ghost use Rattle.aka.specs.Auc.{vectorFrom, batchFrom};
 ghost use Rattle.batches.specs.Views.{countedBy, offsetIn, startIn};
@@ -85,17 +85,24 @@ pub fn fill(
     }
 }
 
+// Whether `size` octets are one to five whole vectors.
+pub fn is_batch(size: usize) -> bool
+    ensures { λ r. ⌜ r ≡ isBatch size ⌝ }
+{
+    if size < aka::VECTOR_SIZE {
+        return false;
+    }
+    if aka::VECTOR_SIZE * (aka::MOST_VECTORS as usize) < size {
+        return false;
+    }
+    size % aka::VECTOR_SIZE == 0
+}
+
 // Where the vector at place k begins in a batch of `size` octets.
 pub fn offset_of(size: usize, k: u64) -> Offset
     ensures { λ r. ⌜ offsetIn r ≡ vectorOffset size k ⌝ }
 {
-    if size < aka::VECTOR_SIZE {
-        return Offset::Nowhere;
-    }
-    if aka::VECTOR_SIZE * (aka::MOST_VECTORS as usize) < size {
-        return Offset::Nowhere;
-    }
-    if size % aka::VECTOR_SIZE != 0 {
+    if !is_batch(size) {
         return Offset::Nowhere;
     }
     if (size / aka::VECTOR_SIZE) as u64 <= k {

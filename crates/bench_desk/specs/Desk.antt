@@ -6,7 +6,7 @@ use lib.Dec.{eqb, ltb, leb}
 use Rattle.octets.specs.Octets.{Octets, zeros, decode}
 use Rattle.functions.specs.Sets.{sets}
 use Rattle.aka.specs.Functions.{Keys}
-use Rattle.aka.specs.Layout.{randSize, autsSize}
+use Rattle.aka.specs.Layout.{vector, randSize, autsSize}
 use Rattle.aka.specs.Sequence.{indices, limit, width}
 use Rattle.aka.specs.Usim as card
 use Rattle.aka.specs.Auc as centre
@@ -84,7 +84,7 @@ module _ (desk : Desk) where
 
     -- the vectors given go to the node
     unfoldable pub storeAnswer : node.VlrAnswer
-    storeAnswer = node.store (desk .vlr) (orderAnswer .n) (orderAnswer .batch)
+    storeAnswer = node.store (desk .vlr) vector (orderAnswer .n) (orderAnswer .batch)
 
     unfoldable pub order : DeskAnswer
     order = withBatch orderAnswer storeAnswer (replies.stored (orderAnswer .n) (storeAnswer .vlr .held))
@@ -94,7 +94,7 @@ module _ (desk : Desk) where
     resyncAnswer = centre.resync width sets (desk .auc) count rands buffer (desk .rand) (desk .auts)
 
     unfoldable pub renewAnswer : node.VlrAnswer
-    renewAnswer = node.renew (desk .vlr) (resyncAnswer .n) (resyncAnswer .batch)
+    renewAnswer = node.renew (desk .vlr) vector (resyncAnswer .n) (resyncAnswer .batch)
 
     unfoldable pub resync : DeskAnswer
     resync = withBatch resyncAnswer renewAnswer (resyncReply (resyncAnswer .outcome) (resyncAnswer .n) (renewAnswer .vlr .held))

@@ -1,5 +1,5 @@
 -- Why a line is no order or resync, and what it is where it is one. Assumes nothing.
-use Prim.Native.Nat.{ℕ, zero, suc, _+_, _-_, _*_}
+use Prim.Native.Nat.{ℕ, _+_, _-_, _*_}
 use mathlib.Core.Bool.{true, false, cond, and-false}
 use mathlib.Core.List.{List, _++_}
 use mathlib.Core.Path.{_≡_, sym}
@@ -8,14 +8,10 @@ use borrow.Author.Tests.{eq-eqb, ne-eqb, lt-ltb, le-ltb}
 use lib.Dec.{ltb}
 use lib.ListN.{length, drop}
 use Rattle.octets.specs.Octets.{Octets, zeros}
+use Rattle.octets.proofs.Strings.{drop-zeros}
 use Rattle.aka.specs.Layout.{keySize, amfSize, randSize}
 use Rattle.bench_reader.specs.Commands.{Word, Command, badLine, alone, randsSize, countAt, randFieldAt}
 use Rattle.bench_reader.specs.Commands.{randFields, randOctets, batchForm, batchCommand, readBatch}
-
-drop-zeros : (n m : ℕ) → drop m (zeros n) ≡ zeros (n - m)
-drop-zeros n zero = let e : n ≡ n - 0 = omega arith in rw (← e)
-drop-zeros zero (suc m) = let e : 0 - suc m ≡ 0 = omega arith in rw e
-drop-zeros (suc n) (suc m) = let e : suc n - suc m ≡ n - m = omega arith in rw e (drop-zeros n m)
 
 -- the RANDs are read where all of them are there
 abbrev pub WithRands : Word → (n from : ℕ) (line : List ℕ) → Command

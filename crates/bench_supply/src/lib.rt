@@ -3,6 +3,7 @@ use auc::Auc;
 use bench_desk::Desk;
 use bench_desk::DeskAnswer;
 use bench_writer::Reply;
+use vlr::Kind;
 ghost use mathlib.Core.Path.{_≡_};
 ghost use Rattle.octets.specs.Octets.{Octets};
 ghost use Rattle.functions.specs.Sets.{sets};
@@ -56,7 +57,7 @@ pub fn order(desk: Desk, count: u8, rands: &[u8], batch: &mut [u8]) -> DeskAnswe
     let auc = desk.auc;
     let vlr = desk.vlr;
     let a = auc::order(auc, count as u64, rands, batch);
-    let v = vlr::store(vlr, a.n as u64, batch);
+    let v = vlr::store(vlr, Kind::Vector, a.n as u64, batch);
     let next = v.vlr;
     with_batch(desk, a, v, Reply::Stored(a.n as u64, next.held as u64))
 }
@@ -101,7 +102,7 @@ pub fn resync(desk: Desk, count: u8, rands: &[u8], batch: &mut [u8]) -> DeskAnsw
     let rand = desk.rand;
     let auts = desk.auts;
     let a = resynchronise(auc, count, rand, auts, rands, batch);
-    let v = vlr::renew(vlr, a.n as u64, batch);
+    let v = vlr::renew(vlr, Kind::Vector, a.n as u64, batch);
     let next = v.vlr;
     let outcome = a.outcome;
     with_batch(

@@ -14,7 +14,7 @@ ghost use Rattle.calls.specs.Limits.{mostLent};
 pub fn answer(line: &[u8]) -> Text {
     let mut store = [0u8; LONGEST];
     let c = call::read(
-        b"auc-new:bKKA auc-write:bKKAlnb vector:On auc-read:O order:OnOl resync:OnOOOl",
+        b"auc-new:bKKA auc-write:bKKAlnb vector:On triplets:Ol auc-read:O order:OnOl resync:OnOOOl",
         line,
         &mut store,
     );
@@ -29,6 +29,7 @@ fn answer_call(c: Call, store: &[u8]) -> Text {
         1 => write(new(c, store), auc_image::SIZE),
         2 => write(record(c, store), call::lent_size(c, 4)),
         3 => vector(c, store),
+        4 => triplets(c, store),
         _ => with_image(c, store),
     }
 }
@@ -54,7 +55,7 @@ fn write(auc: Auc, size: usize) -> Text
 {
     let mut buffer = [0u8; MOST_LENT];
     let refusal = auc_image::write(auc, &mut buffer[0..size]);
-    text::image(refusal, buffer, size)
+    text::written(b"image", refusal, buffer, size)
 }
 
 // `vector BATCH PLACE`.
@@ -66,6 +67,14 @@ fn vector(c: Call, store: &[u8]) -> Text {
     )
 }
 
+// `triplets BATCH LENGTH`. LENGTH is that of the buffer lent for the triplets.
+fn triplets(c: Call, store: &[u8]) -> Text {
+    let mut buffer = [0u8; MOST_LENT];
+    let size = call::lent_size(c, 1);
+    let refusal = triplets::convert(call::part(c, 0, store), &mut buffer[0..size]);
+    text::written(b"triplets", refusal, buffer, size)
+}
+
 // The calls whose first field is an image.
 fn with_image(c: Call, store: &[u8]) -> Text {
     let read = auc_image::read(call::part(c, 0, store));
@@ -75,8 +84,8 @@ fn with_image(c: Call, store: &[u8]) -> Text {
     let auc = read.auc;
     let word = c.word;
     match word {
-        4 => put_record(auc),
-        5 => order(auc, c, store),
+        5 => put_record(auc),
+        6 => order(auc, c, store),
         _ => resync(auc, c, store),
     }
 }

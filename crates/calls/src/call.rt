@@ -103,7 +103,8 @@ fn find_word(words: &[u8], word: &[u8]) -> Entry {
 }
 
 // A form has a letter for each field, a small one for a number and a capital one for octets: `d` one digit, 0 or 1, `s` a state, `b` what
-// has one octet, `l` the length of a lent buffer, `n` any number; `A` AMF, `K` a key, `V` a vector, `P` the node's places, `O` any octets.
+// has one octet, `l` the length of a lent buffer, `n` any number; `A` AMF, `K` a key, `V` the node's outstanding place, `P` all its
+// places, `O` any octets.
 // Whether the number, or how many octets there are, is right for the letter.
 fn fits(kind: u8, n: Number) -> bool {
     if !n.ok {
@@ -117,7 +118,7 @@ fn fits(kind: u8, n: Number) -> bool {
         b'l' => size <= MOST_LENT as u64,
         b'A' => size == aka::AMF_SIZE as u64,
         b'K' => size == aka::KEY_SIZE as u64,
-        b'V' => size == aka::VECTOR_SIZE as u64,
+        b'V' => size == aka::PLACE_SIZE as u64,
         b'P' => size <= aka::QUEUE_SIZE as u64,
         _ => true,
     }

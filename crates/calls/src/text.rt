@@ -78,10 +78,10 @@ pub fn put_keys(word: &[u8], keys: Keys) -> Text {
     put_two(numbered(word, keys.set as u64), k, opc)
 }
 
-// The image that was written to the front of a buffer, or the refusal.
-pub fn image(refusal: u8, buffer: [u8; MOST_LENT], size: usize) -> Text {
+// A word, and what was written to the front of a buffer; or the refusal.
+pub fn written(name: &[u8], refusal: u8, buffer: [u8; MOST_LENT], size: usize) -> Text {
     if refusal != 0 {
         return refused(refusal);
     }
-    put_octets(word(b"image"), console::first_bytes(&buffer, size))
+    put_octets(word(name), console::first_bytes(&buffer, size))
 }

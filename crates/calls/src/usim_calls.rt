@@ -57,7 +57,7 @@ fn write(card: Usim, size: usize) -> Text
 {
     let mut buffer = [0u8; MOST_LENT];
     let refusal = usim_image::write(card, &mut buffer[0..size]);
-    text::image(refusal, buffer, size)
+    text::written(b"image", refusal, buffer, size)
 }
 
 // The calls whose first field is an image: `card-read IMAGE` and `challenge IMAGE RAND AUTN`.

@@ -4,6 +4,7 @@ use crate::call::Call;
 use crate::call::LONGEST;
 use crate::text;
 use crate::text::Text;
+use vlr::Kind;
 use vlr::Outcome;
 use vlr::Reply;
 use vlr::State;
@@ -19,7 +20,7 @@ pub struct Answered {
 pub fn answer(vlr: Vlr, line: &[u8]) -> Answered {
     let mut store = [0u8; LONGEST];
     let c = call::read(
-        b"vlr-new: vlr-record:sbVP store:nO renew:nO answer:O sync:O ask: again: reject: timeout: abandon:",
+        b"vlr-new: vlr-record:sbVP store:dnO renew:dnO answer:O sync:O ask: again: reject: timeout: abandon:",
         line,
         &mut store,
     );
@@ -47,17 +48,24 @@ fn reply(vlr: Vlr, c: Call, store: &[u8]) -> Reply {
     }
 }
 
-// The calls with octets: `store COUNT BATCH`, `renew COUNT BATCH`, `answer RES` and `sync AUTS`.
+// The calls with octets: `store KIND COUNT BATCH`, `renew KIND COUNT BATCH`, `answer RES` and `sync AUTS`.
 fn with_octets(vlr: Vlr, c: Call, store: &[u8]) -> Reply {
     let word = c.word;
-    let first = call::part(c, 0, store);
-    let second = call::part(c, 1, store);
+    let kind = kind_of(call::mark(c, 0));
+    let batch = call::part(c, 2, store);
     match word {
-        3 => vlr::store(vlr, call::number(c, 0), second),
-        4 => vlr::renew(vlr, call::number(c, 0), second),
-        5 => vlr::answer(vlr, first),
-        _ => vlr::sync(vlr, first),
+        3 => vlr::store(vlr, kind, call::number(c, 1), batch),
+        4 => vlr::renew(vlr, kind, call::number(c, 1), batch),
+        5 => vlr::answer(vlr, call::part(c, 0, store)),
+        _ => vlr::sync(vlr, call::part(c, 0, store)),
     }
+}
+
+fn kind_of(is_triplet: bool) -> Kind {
+    if is_triplet {
+        return Kind::Triplet;
+    }
+    Kind::Vector
 }
 
 // The words without fields.
@@ -73,7 +81,7 @@ fn bare(vlr: Vlr, word: u64) -> Reply {
 
 // `vlr-record STATE HELD OUT PLACES`.
 fn record(c: Call, store: &[u8]) -> Vlr {
-    let mut out = [0u8; aka::VECTOR_SIZE];
+    let mut out = [0u8; aka::PLACE_SIZE];
     let mut places = [0u8; aka::QUEUE_SIZE];
     call::copy_front(call::part(c, 2, store), &mut out);
     call::copy_front(call::part(c, 3, store), &mut places);
@@ -103,6 +111,7 @@ fn record_reply(vlr: Vlr) -> Reply {
         auts: [0; aka::AUTS_SIZE],
         ck: [0; aka::CK_SIZE],
         ik: [0; aka::IK_SIZE],
+        kc: [0; aka::KC_SIZE],
     }
 }
 
@@ -110,7 +119,7 @@ fn record_reply(vlr: Vlr) -> Reply {
 fn put_reply(reply: Reply) -> Answered {
     let outcome = reply.outcome;
     let vlr = reply.vlr;
-    let t = put_octets(put_outcome(outcome), reply);
+    let t = put_keys(put_octets(put_outcome(outcome), reply), reply);
     Answered {
         vlr,
         text: put_vlr(t, vlr),
@@ -130,10 +139,14 @@ fn put_octets(t: Text, reply: Reply) -> Text {
     let rand = reply.rand;
     let autn = reply.autn;
     let auts = reply.auts;
+    text::put_octets(text::put_two(t, rand, autn), &auts)
+}
+
+fn put_keys(t: Text, reply: Reply) -> Text {
     let ck = reply.ck;
     let ik = reply.ik;
-    let t = text::put_octets(text::put_two(t, rand, autn), &auts);
-    text::put_two(t, ck, ik)
+    let kc = reply.kc;
+    text::put_octets(text::put_two(t, ck, ik), &kc)
 }
 
 fn put_vlr(t: Text, vlr: Vlr) -> Text {

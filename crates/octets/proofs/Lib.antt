@@ -7,6 +7,7 @@ pub mod Tables
 pub mod Ranges
 pub mod Parts
 pub mod Walks
+mod Comparing
 pub mod Copies
 pub mod Refusals
 pub mod PartByPart

@@ -1,14 +1,14 @@
--- Laws of equality, turning and parts. Assumes nothing.
-use Prim.Native.Nat.{ℕ, zero, suc, _+_, _≤_}
+-- Laws of equality, turning, parts and zeros. Assumes nothing.
+use Prim.Native.Nat.{ℕ, zero, suc, _+_, _-_, _≤_}
 use mathlib.Core.Bool.{true, false, true≢false, and-eq-true-iff}
 use mathlib.Core.List.{[], _∷_}
 use mathlib.Core.Path.{_≡_, refl, sym, ap, ap₂, _∙_}
 use native.Mathlib.Omega.{arith}
 use borrow.Author.Tests.{eqb-true, eq-eqb}
 use lib.Dec.{eqb}
-use lib.ListN.{length, getD, length-append, length-take, length-drop}
+use lib.ListN.{length, getD, drop, length-append, length-take, length-drop}
 use lib.Seq.{drop-cons, take-all}
-use Rattle.octets.specs.Octets.{Octets, part, equal, turnLeft}
+use Rattle.octets.specs.Octets.{Octets, zeros, part, equal, turnLeft}
 
 pub equal-self : (x : Octets) → equal x x ≡ true
 unfolding equal
@@ -42,3 +42,8 @@ listed-part x start (suc n) h =
 
 pub listed-all : (x : Octets) (n : ℕ) → length x ≡ n → listed x 0 n ≡ x
 listed-all x n h = listed-part x 0 n (omega arith) ∙ take-all n x (omega arith)
+
+pub drop-zeros : (n m : ℕ) → drop m (zeros n) ≡ zeros (n - m)
+drop-zeros n zero = let e : n ≡ n - 0 = omega arith in rw (← e)
+drop-zeros zero (suc m) = let e : 0 - suc m ≡ 0 = omega arith in rw e
+drop-zeros (suc n) (suc m) = let e : suc n - suc m ≡ n - m = omega arith in rw e (drop-zeros n m)

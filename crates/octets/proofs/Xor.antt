@@ -5,9 +5,9 @@ use mathlib.Core.Path.{_≡_, refl, ap, ap₂, _∙_}
 use native.Mathlib.Nat.{div-add-mod'}
 use native.Mathlib.Omega.{arith}
 use lib.Arith.{bin-ind}
-use lib.Bits.{bitXor, xor-step, xor-shr, xor-mod, differ, xor-zero-l, xor-self}
+use lib.Bits.{bitXor, xor-step, xor-shr, xor-mod, differ, xor-zero-l, xor-zero-r, xor-self}
 use lib.ListN.{length, getD}
-use Rattle.octets.specs.Octets.{Octets, xor}
+use Rattle.octets.specs.Octets.{Octets, zeros, xor}
 
 -- ---- on numbers
 
@@ -42,6 +42,13 @@ unfolding xor
 length-xor [] y h = refl
 length-xor (a ∷ x) [] h = absurd (omega arith)
 length-xor (a ∷ x) (b ∷ y) h = ap suc (length-xor x y (omega arith))
+
+-- zeros change nothing
+pub xor-zeros : (x : Octets) (n : ℕ) → length x ≤ n → xor x (zeros n) ≡ x
+unfolding xor
+xor-zeros [] n h = refl
+xor-zeros (a ∷ x) zero h = absurd (omega arith)
+xor-zeros (a ∷ x) (suc n) h = ap₂ (λ (c : ℕ) (l : Octets). c ∷ l) (xor-zero-r a) (xor-zeros x n (omega arith))
 
 -- what a string of its length conceals is found again
 pub xor-twice : (x y : Octets) → length x ≤ length y → xor (xor x y) y ≡ x

@@ -21,6 +21,21 @@ pub fn equal(x: &[u8], y: &[u8]) -> bool
     true
 }
 
+// The same for two MACs, or a response and the one expected. All octets are looked at, whatever they are: the time tells nothing of where
+// they differ.
+pub fn equal_without_early_end(x: &[u8], y: &[u8]) -> bool
+    requires { ⌜ length (now x) ≡ length (now y) ⌝ }
+    ensures { λ r. ⌜ r ≡ equalTo (now (x .entry)) (now (y .entry)) ⌝ }
+{
+    let mut differences: u8 = 0;
+    let mut i: usize = 0;
+    while i < x.len() {
+        differences = differences | (x[i] ^ y[i]);
+        i += 1;
+    }
+    differences == 0
+}
+
 // Puts `part` into a buffer, from `at` on. What stands before and behind stays.
 pub fn put(buffer: &mut [u8], at: usize, part: &[u8])
     requires { ⌜ at + length (now part) ≤ length (now buffer) ⌝ }

@@ -6,6 +6,7 @@ use borrow.Fn.World.{ArgsD, ResD}
 use denote.Ref.{now}
 use denote.Triple.Clauses.{AtExit}
 use Rattle.aka.specs.Calls as calls
+use Rattle.vlr_places.specs.Views.{kindOf}
 use Rattle.vlr_record.proofs.new as new
 use Rattle.vlr_record.proofs.new.Kinds as newKinds
 use Rattle.vlr_record.proofs.new.Reads as newReads
@@ -44,12 +45,12 @@ begins κs a vlr s p = p
 
 pub stores : (κs : Lfts 1) (a : ArgsD store.signature κs) (r : ResD store.signature κs)
     (s : AtExit (endedOf 1 storeKinds.ps storeKinds.r) κs) → storeReads.Post κs a r s
-    → Answered (a .0) (calls.store (a .1 .0) (now (a .1 .1 .0))) r
+    → Answered (a .0) (calls.store (kindOf (a .1 .0)) (a .1 .1 .0) (now (a .1 .1 .1 .0))) r
 stores κs a r s p = p
 
 pub renews : (κs : Lfts 1) (a : ArgsD renew.signature κs) (r : ResD renew.signature κs)
     (s : AtExit (endedOf 1 renewKinds.ps renewKinds.r) κs) → renewReads.Post κs a r s
-    → Answered (a .0) (calls.renew (a .1 .0) (now (a .1 .1 .0))) r
+    → Answered (a .0) (calls.renew (kindOf (a .1 .0)) (a .1 .1 .0) (now (a .1 .1 .1 .0))) r
 renews κs a r s p = p
 
 pub asks : (κs : Lfts 0) (a : ArgsD ask.signature κs) (r : ResD ask.signature κs)

@@ -1,5 +1,6 @@
--- The order of use at the node, of the running code: each vector once, in the order received; only an unanswered request is repeated. `aka`
--- states it of the definitions; here it names the records that the nine operations of `vlr` take and return. Assumes nothing.
+-- The order of use at the node, of the running code: each vector and each triplet once, all in the order received; only an unanswered
+-- request is repeated. `aka` states it of the definitions; here it names the records that the nine operations of `vlr` take and return.
+-- Assumes nothing.
 use mathlib.Core.List.{List, [], _∷_, map}
 use mathlib.Core.Path.{_≡_}
 use Rattle.aka.specs.Vlr.{newVlr}

@@ -63,7 +63,7 @@ fn mac_s_right(
 {
     let mac = tokens::mac_s_in(auts);
     let expected = functions::f1s(table, schedule, c, sqn, [0; aka::AMF_SIZE]);
-    tokens::equal_without_early_end(mac, expected)
+    octets::equal_without_early_end(&mac, &expected)
 }
 
 // In range SEQ_HE is kept, and MAC-S is not looked at. Otherwise MAC-S is verified, and SEQ_HE becomes SEQ_MS.

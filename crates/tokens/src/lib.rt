@@ -5,19 +5,6 @@ ghost use Rattle.octets.specs.Octets.{xor, equal, encode, decode};
 ghost use Rattle.aka.specs.Layout.{sqnSize, readAutn, writeAutn, readAuts, writeAuts};
 ghost use Rattle.aka.specs.Sequence.{FitsSqn};
 
-// Whether two MACs, or RES and XRES, are equal. All octets are looked at, whatever they are: the time tells nothing of where they differ.
-pub fn equal_without_early_end(x: [u8; aka::MAC_SIZE], y: [u8; aka::MAC_SIZE]) -> bool
-    ensures { λ r. ⌜ r ≡ equal x y ⌝ }
-{
-    let mut differences: u8 = 0;
-    let mut i: usize = 0;
-    while i < aka::MAC_SIZE {
-        differences = differences | (x[i] ^ y[i]);
-        i += 1;
-    }
-    differences == 0
-}
-
 fn xor6(x: [u8; aka::SQN_SIZE], y: [u8; aka::SQN_SIZE]) -> [u8; aka::SQN_SIZE]
     ensures { λ r. ⌜ r ≡ xor x y ⌝ }
 {

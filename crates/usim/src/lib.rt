@@ -36,7 +36,7 @@ fn mac_right(
 {
     let mac = octets::eight(autn, aka::MAC_AT);
     let expected = functions::f1(table, schedule, c, sqn, tokens::amf_in(autn));
-    tokens::equal_without_early_end(mac, expected)
+    octets::equal_without_early_end(&mac, &expected)
 }
 
 // AUTS of SQN_MS, concealed with AK*: f5* of RAND. The AMF of MAC-S is zero.

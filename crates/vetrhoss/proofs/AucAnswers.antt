@@ -9,8 +9,9 @@ use Rattle.aka.specs.Auc.{Auc, AucAnswer, validAuc}
 use Rattle.aka.specs.Sequence.{width}
 use Rattle.auc_image.specs.Image.{Read, image as aucImage, imageSize, readAnswer, format}
 use Rattle.auc_image.proofs.RoundTrips.{round-trips}
-use Rattle.vetrhoss.specs.Results.{outcomeResult}
-use Rattle.vetrhoss.specs.Interface.{aucImageAfter, aucReturns}
+use Rattle.interface_answers.specs.Results.{outcomeResult}
+use Rattle.interface_answers.specs.Answers.{aucImageAfter}
+use Rattle.vetrhoss.specs.Interface.{aucReturns}
 
 -- an image that was read has its length and a valid record
 pub read-valid : (x : Octets) (r : Read Auc) → r ≡ readAnswer (format width sets) x → r .refusal ≡ 0

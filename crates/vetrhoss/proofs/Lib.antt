@@ -1,4 +1,3 @@
-mod Sizes
 mod NewImages
 mod UsimAnswers
 mod AucAnswers

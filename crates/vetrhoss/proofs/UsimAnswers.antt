@@ -19,8 +19,9 @@ use Rattle.usim_record.specs.Views.{usimOf, verdictOf, sqnGiven, answerOf, sqnD
 use Rattle.usim_record.proofs.Verdict.{the-type}
 use Rattle.usim_image.specs.Image.{Read, image as usimImage, imageSize, readAnswer, format}
 use Rattle.usim_image.proofs.RoundTrips.{round-trips}
-use Rattle.vetrhoss.specs.Results.{verdictResult}
-use Rattle.vetrhoss.specs.Interface.{Returned, UsimOctets, usimImageAfter, bufferAfter, usimReturns}
+use Rattle.interface_answers.specs.Results.{verdictResult}
+use Rattle.interface_answers.specs.Answers.{usimImageAfter}
+use Rattle.vetrhoss.specs.Interface.{Returned, UsimOctets, bufferAfter, usimReturns}
 
 -- an image that was read has its length and a valid record
 pub read-valid : (x : Octets) (r : Read Usim) → r ≡ readAnswer (format width sets) x → r .refusal ≡ 0

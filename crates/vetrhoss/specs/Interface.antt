@@ -2,7 +2,7 @@
 -- numbers returned are those of Results. A refusal leaves the octets as they were. An image is read first: what its reading refuses is the
 -- call's answer, before every other refusal. Assumes nothing: these are definitions.
 use Prim.Native.Nat.{ℕ}
-use mathlib.Core.Bool.{Bool, _&&_, not, cond}
+use mathlib.Core.Bool.{_&&_, not, cond}
 use mathlib.Core.Option.{Option, none, some}
 use lib.Dec.{eqb}
 use lib.ListN.{length}
@@ -10,17 +10,16 @@ use Rattle.octets.specs.Octets.{Octets}
 use Rattle.aes.specs.Cipher.{aes}
 use Rattle.milenage.specs.Opc.{opc}
 use Rattle.functions.specs.Sets.{sets}
-use Rattle.aka.specs.Layout.{keySize, amfSize, resSize, ckSize, ikSize, autsSize, vectorOffset}
+use Rattle.aka.specs.Layout.{keySize, amfSize, vectorOffset}
+use Rattle.aka.specs.Triplets.{convert}
 use Rattle.aka.specs.Usim as card
 use Rattle.aka.specs.Auc as centre
 use Rattle.aka.specs.Sequence.{width}
 use Rattle.usim_record.specs.Views.{sqnDue}
 use Rattle.usim_image.specs.Image as usim
 use Rattle.auc_image.specs.Image as auc
-use Rattle.vetrhoss.specs.Results.{both, verdictResult, outcomeResult}
-
-abbrev has : (size : ℕ) → Octets → Bool
-has size x = eqb (length x) size
+use Rattle.interface_answers.specs.Results.{both, verdictResult, outcomeResult}
+use Rattle.interface_answers.specs.Answers.{has, areKeys, answerSized, usimImageAfter, aucImageAfter}
 
 -- what a call returns, and what the octets that it was lent to write to hold at its end
 pub record Returned (Held : Type 0) : Type 0 where
@@ -34,10 +33,6 @@ abbrev pub refused : {Held : Type 0} → (number : ℕ) → Held → Returned He
 refused number octets = record { result = number; octets = octets }
 
 -- ---- OPc and new images: one buffer
-
--- K, and OP or OPc
-unfoldable pub areKeys : (k op : Octets) → Bool
-areKeys k op = has keySize k && has keySize op
 
 -- OPc of K and OP
 unfoldable pub opcCall : (k op buffer : Octets) → Returned Octets
@@ -68,17 +63,6 @@ pub record UsimOctets : Type 0 where
   pub ck : Octets
   pub ik : Octets
   pub auts : Octets
-
--- the buffers for the answer have their sizes
-abbrev pub answerSized : (res ck ik auts : Octets) → Bool
-answerSized res ck ik auts = has resSize res && has ckSize ck && has ikSize ik && has autsSize auts
-
--- the image becomes that of the next record with an acceptance
-abbrev pub usimImageAfter : card.Verdict → (image next : Octets) → Octets
-usimImageAfter card.accepted image next = next
-usimImageAfter card.macFailure image next = image
-usimImageAfter card.syncFailure image next = image
-usimImageAfter (card.refused number) image next = image
 
 -- a buffer gets its part of the answer unless that is a refusal
 abbrev pub bufferAfter : card.Verdict → (buffer part : Octets) → Octets
@@ -116,14 +100,6 @@ pub record AucOctets : Type 0 where
   pub image : Octets
   pub batch : Octets
 
--- the image becomes that of the next record where a batch is given
-abbrev pub aucImageAfter : centre.Outcome → (image next : Octets) → Octets
-aucImageAfter centre.given image next = next
-aucImageAfter centre.kept image next = next
-aucImageAfter centre.reset image next = next
-aucImageAfter (centre.refused number) image next = image
-aucImageAfter (centre.repeated i j) image next = image
-
 -- what an answer of the centre comes to
 abbrev pub aucReturns : centre.AucAnswer → (image : Octets) → Returned AucOctets
 aucReturns a image = record {
@@ -153,3 +129,8 @@ offsetResult (some offset) = both 0 offset
 
 unfoldable pub vectorAtCall : (batch : Octets) (k : ℕ) → ℕ
 vectorAtCall batch k = offsetResult (vectorOffset (length batch) k)
+
+-- ---- the triplets of a batch
+
+abbrev pub tripletsCall : (batch buffer : Octets) → Returned Octets
+tripletsCall batch buffer = let made = convert batch buffer in record { result = made .refusal; octets = made .buffer }

@@ -1,15 +1,15 @@
 // The C interface: the calls that programs in C and Rust link (include/vetrhoss.h). Records are lent as their packed images; an image is
 // read first, and what its reading refuses is the call's answer. A call returns one number: the low 8 bits are 0, a refusal's number or a
 // failure's cause, and the rest is the value that goes with it.
-mod auc_answer;
-mod buffers;
-mod results;
-mod usim_answer;
-
 use auc::Offset;
+use interface_answers::auc_answer;
+use interface_answers::buffers;
+use interface_answers::results;
+use interface_answers::usim_answer;
 use usim::Verdict;
 ghost use mathlib.Core.Path.{_≡_};
-ghost use Rattle.vetrhoss.specs.Interface.{opcCall, newUsimCall, newAucCall, challengeCall, orderCall, resyncCall, vectorAtCall};
+ghost use Rattle.vetrhoss.specs.Interface.{opcCall, newUsimCall, newAucCall, challengeCall, orderCall, resyncCall};
+ghost use Rattle.vetrhoss.specs.Interface.{vectorAtCall, tripletsCall};
 
 // OPc of K and OP.
 #[no_mangle]
@@ -181,4 +181,14 @@ pub extern "C" fn vetrhoss_vector_at(batch: &[u8], k: u64) -> u64
         return 3;
     };
     results::both(0, at as u64)
+}
+
+// The triplets of a batch, for GSM phones.
+#[no_mangle]
+pub extern "C" fn vetrhoss_triplets(batch: &[u8], triplets: &mut [u8]) -> u64
+    ensures { λ r. ⌜
+        record { result = r; octets = now (triplets .exit) } ≡ tripletsCall (now (batch .entry)) (now (triplets .entry))
+        ⌝ }
+{
+    triplets::convert(batch, triplets) as u64
 }

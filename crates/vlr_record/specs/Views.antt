@@ -33,4 +33,5 @@ answerOf r = record {
   auts = r .auts;
   ck = r .ck;
   ik = r .ik;
+  kc = r .kc;
 }

@@ -1,7 +1,7 @@
 // The record of the serving node, VLR or SGSN (document 01: node), the tests on it, and the octets in it.
 pub mod queue;
-pub mod vector;
 
+pub use vlr_places::Kind;
 ghost use mathlib.Core.Path.{_≡_};
 ghost use Prim.Native.Nat.{_+_};
 ghost use lib.Dec.{leb};
@@ -15,7 +15,7 @@ pub enum State {
     Resyncing,
 }
 
-// `queue` has the `held` vectors, oldest first, then zeros; `out` is the outstanding vector, zeros when none.
+// `queue` has the `held` places in use, oldest first, then zeros; `out` is the outstanding place, zeros when none.
 pub struct Vlr {
     pub state: State,
     pub held: u8,
@@ -40,6 +40,7 @@ pub struct Reply {
     pub auts: [u8; aka::AUTS_SIZE],
     pub ck: [u8; aka::CK_SIZE],
     pub ik: [u8; aka::IK_SIZE],
+    pub kc: [u8; aka::KC_SIZE],
 }
 
 // A new node: Idle, nothing held.
@@ -97,16 +98,19 @@ pub fn is_valid(vlr: Vlr) -> bool
     if aka::MOST_HELD < held {
         return false;
     }
+    if !queue::are_good(queue, held) {
+        return false;
+    }
     if !queue::is_unused(queue, held) {
         return false;
     }
     if is_asked(state) {
-        return true;
+        return vlr_places::is_good(&out);
     }
-    queue::is_absent(out)
+    vlr_places::all_zero(&out)
 }
 
-// Whether there is room for `count` vectors more.
+// Whether there is room for `count` items more.
 pub fn has_room(held: u8, count: u64) -> bool
     ensures { λ r. ⌜ r ≡ leb (held + count) spec.mostHeld ⌝ }
 {

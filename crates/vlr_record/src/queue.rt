@@ -1,30 +1,29 @@
 // The queue of the serving node: its places (document 01: node place), one behind the other, in one flat array, so that a part of it can be
 // lent and a shift is one copy.
+use vlr_places::Kind;
 ghost use mathlib.Core.List.{_++_};
 ghost use mathlib.Core.Path.{_≡_};
 ghost use Prim.Native.Nat.{_*_, _+_, _≤_};
 ghost use lib.ListN.{drop, length, take};
 ghost use Rattle.octets.specs.Octets.{zeros};
-ghost use Rattle.aka.specs.Vlr.{allZero, mostHeld, placeSize};
+ghost use Rattle.aka.specs.Layout.{itemSize};
+ghost use Rattle.aka.specs.Vlr.{allZero, goodPlaces, mostHeld, placeSize, placesOf};
+ghost use Rattle.vlr_places.specs.Views.{kindOf};
 
-// All octets are looked at, whatever they are: without an early end the compiler takes many at a time.
-fn all_zero(x: &[u8]) -> bool
-    ensures { λ r. ⌜ r ≡ allZero (now (x .entry)) ⌝ }
+// Whether the first `held` places are as they should be.
+pub fn are_good(queue: [u8; aka::QUEUE_SIZE], held: usize) -> bool
+    requires { ⌜ held ≤ mostHeld ⌝ }
+    ensures { λ r. ⌜ r ≡ goodPlaces queue held ⌝ }
 {
-    let mut found: u8 = 0;
-    let mut i = 0;
-    while i < x.len() {
-        found = found | x[i];
-        i += 1;
+    let mut k: usize = 0;
+    while k < held {
+        let at = aka::PLACE_SIZE * k;
+        if !vlr_places::is_good(&queue[at..at + aka::PLACE_SIZE]) {
+            return false;
+        }
+        k += 1;
     }
-    found == 0
-}
-
-// Whether no vector is outstanding.
-pub fn is_absent(out: [u8; aka::PLACE_SIZE]) -> bool
-    ensures { λ r. ⌜ r ≡ allZero out ⌝ }
-{
-    all_zero(&out)
+    true
 }
 
 // Whether the places behind the first `held` are zero.
@@ -32,16 +31,16 @@ pub fn is_unused(queue: [u8; aka::QUEUE_SIZE], held: usize) -> bool
     requires { ⌜ held ≤ mostHeld ⌝ }
     ensures { λ r. ⌜ r ≡ allZero (drop (placeSize * held) queue) ⌝ }
 {
-    all_zero(&queue[aka::PLACE_SIZE * held..])
+    vlr_places::all_zero(&queue[aka::PLACE_SIZE * held..])
 }
 
-// The vector at the first place.
+// The first place.
 pub fn oldest(queue: [u8; aka::QUEUE_SIZE]) -> [u8; aka::PLACE_SIZE]
     ensures { λ r. ⌜ r ≡ take placeSize queue ⌝ }
 {
-    let mut vector = [0u8; aka::PLACE_SIZE];
-    bytes::copy(&queue[0..aka::PLACE_SIZE], &mut vector);
-    vector
+    let mut place = [0u8; aka::PLACE_SIZE];
+    bytes::copy(&queue[0..aka::PLACE_SIZE], &mut place);
+    place
 }
 
 // The others move forward, and the place freed at the end is zero.
@@ -53,14 +52,26 @@ pub fn without_oldest(queue: [u8; aka::QUEUE_SIZE]) -> [u8; aka::QUEUE_SIZE]
     next
 }
 
-// A batch is put behind the first `held` vectors.
-pub fn with_batch(queue: [u8; aka::QUEUE_SIZE], held: usize, batch: &[u8]) -> [u8; aka::QUEUE_SIZE]
-    requires { ⌜ placeSize * held + length (now batch) ≤ placeSize * mostHeld ⌝ }
+// The items of a batch are put behind the first `held` places, each in its own.
+pub fn with_batch(
+    queue: [u8; aka::QUEUE_SIZE],
+    held: usize,
+    kind: Kind,
+    count: usize,
+    batch: &[u8],
+) -> [u8; aka::QUEUE_SIZE]
+    requires room { ⌜ held + count ≤ mostHeld ⌝ }
+    requires size { ⌜ length (now batch) ≡ itemSize (kindOf kind) * count ⌝ }
     ensures { λ r. ⌜
-        r ≡ take (placeSize * held) queue ++ now (batch .entry) ++ drop (placeSize * held + length (now (batch .entry))) queue
+        r ≡ take (placeSize * held) queue ++ placesOf (kindOf kind) (now (batch .entry)) count ++ drop (placeSize * (held + count)) queue
         ⌝ }
 {
     let mut next = queue;
-    bytes::copy(batch, &mut next[aka::PLACE_SIZE * held..]);
+    let mut k: usize = 0;
+    while k < count {
+        let item = vlr_places::placed_at(kind, batch, k);
+        octets::put(&mut next, aka::PLACE_SIZE * (held + k), &item);
+        k += 1;
+    }
     next
 }

@@ -1,19 +1,24 @@
 -- A test that the code makes without a product that might not fit. Assumes nothing.
-use Prim.Native.Nat.{ℕ, _*_, _/_, _%_}
+use Prim.Native.Nat.{ℕ, _*_, _/_, _%_, _<_}
 use mathlib.Core.Bool.{Bool, true, false}
-use mathlib.Core.Path.{_≡_, refl, sym}
+use mathlib.Core.Path.{_≡_, refl, sym, ap, _∙_}
+use native.Mathlib.Nat.{div-add-mod, mul-div-right, mul-mod-right}
 use native.Mathlib.Omega.{arith}
 use borrow.Author.Tests.{eqb-true, eqb-false, eq-eqb, ne-eqb}
 use lib.Dec.{eqb}
-use Rattle.aka.specs.Vlr.{placeSize}
 
-pub whole : (size count : ℕ) → size % placeSize ≡ 0 → eqb (size / placeSize) count ≡ eqb size (placeSize * count)
-whole size count h = go (eqb (size / placeSize) count) refl
-  where
-    go : (b : Bool) → eqb (size / placeSize) count ≡ b → b ≡ eqb size (placeSize * count)
-    go true e = sym (eq-eqb size (placeSize * count) (omega (arith, eqb-true (size / placeSize) count e)))
-    go false e = sym (ne-eqb size (placeSize * count)
-        (λ (same : size ≡ placeSize * count). eqb-false (size / placeSize) count e (omega arith)))
+-- of `size` octets in items of `item` octets
+module _ (size item count : ℕ) (some : 0 < item) where
+  pub whole : size % item ≡ 0 → eqb (size / item) count ≡ eqb size (item * count)
+  whole h = go (eqb (size / item) count) refl
+    where
+      parts : size ≡ item * (size / item)
+      parts = omega (arith, div-add-mod size item)
 
-pub broken : (size count : ℕ) → (size % placeSize ≡ 0 → ⊥) → eqb size (placeSize * count) ≡ false
-broken size count h = ne-eqb size (placeSize * count) (λ (same : size ≡ placeSize * count). h (omega arith))
+      go : (b : Bool) → eqb (size / item) count ≡ b → b ≡ eqb size (item * count)
+      go true e = sym (eq-eqb size (item * count) (parts ∙ ap (λ (n : ℕ). item * n) (eqb-true (size / item) count e)))
+      go false e = sym (ne-eqb size (item * count)
+          (λ (same : size ≡ item * count). eqb-false (size / item) count e (rw same (mul-div-right count some))))
+
+  pub broken : (size % item ≡ 0 → ⊥) → eqb size (item * count) ≡ false
+  broken h = ne-eqb size (item * count) (λ (same : size ≡ item * count). h (rw same (mul-mod-right item count)))

@@ -1,24 +1,25 @@
 // The steps of the serving node, VLR or SGSN (document 01: node): the records that follow an operation, and the answers made of them.
+use vlr_places::Kind;
 use vlr_record::Outcome;
 use vlr_record::Reply;
 use vlr_record::State;
 use vlr_record::Vlr;
 use vlr_record::queue;
-use vlr_record::vector;
 ghost use mathlib.Core.Path.{_≡_};
 ghost use Prim.Native.Nat.{_*_, _+_, _<_, _≤_};
 ghost use lib.ListN.{length};
-ghost use Rattle.aka.specs.Layout.{autsSize, resSize};
+ghost use Rattle.aka.specs.Layout.{autsSize, itemSize};
 ghost use Rattle.aka.specs.Vlr as spec;
+ghost use Rattle.vlr_places.specs.Views.{kindOf};
 ghost use Rattle.vlr_record.specs.Views.{answerOf, outcomeOf, stateOf, vlrOf};
 
 // ---- records that follow
 
-// A batch is added behind the vectors held.
-pub fn queued(vlr: Vlr, count: u64, batch: &[u8]) -> Vlr
+// A batch is added behind what is held.
+pub fn queued(vlr: Vlr, kind: Kind, count: u64, batch: &[u8]) -> Vlr
     requires room { ⌜ vlr .held + count ≤ spec.mostHeld ⌝ }
-    requires size { ⌜ length (now batch) ≡ spec.placeSize * count ⌝ }
-    ensures { λ r. ⌜ vlrOf r ≡ spec.queued (vlrOf vlr) count (now (batch .entry)) ⌝ }
+    requires size { ⌜ length (now batch) ≡ itemSize (kindOf kind) * count ⌝ }
+    ensures { λ r. ⌜ vlrOf r ≡ spec.queued (vlrOf vlr) count (spec.placesOf (kindOf kind) (now (batch .entry)) count) ⌝ }
 {
     let state = vlr.state;
     let queue = vlr.queue;
@@ -26,7 +27,7 @@ pub fn queued(vlr: Vlr, count: u64, batch: &[u8]) -> Vlr
     Vlr {
         state,
         held: vlr.held + (count as u8),
-        queue: queue::with_batch(queue, vlr.held as usize, batch),
+        queue: queue::with_batch(queue, vlr.held as usize, kind, count as usize, batch),
         out,
     }
 }
@@ -45,7 +46,7 @@ pub fn oldest_out(vlr: Vlr) -> Vlr
     }
 }
 
-// Another state, where no vector is outstanding.
+// Another state, where nothing is outstanding.
 pub fn none_out(state: State, vlr: Vlr) -> Vlr
     ensures { λ r. ⌜ vlrOf r ≡ spec.noneOut (stateOf state) (vlrOf vlr) ⌝ }
 {
@@ -72,6 +73,7 @@ pub fn no_octets(outcome: Outcome, vlr: Vlr) -> Reply
         auts: [0; aka::AUTS_SIZE],
         ck: [0; aka::CK_SIZE],
         ik: [0; aka::IK_SIZE],
+        kc: [0; aka::KC_SIZE],
     }
 }
 
@@ -92,7 +94,7 @@ pub fn unless_refused(vlr: Vlr, number: u8, reply: Reply) -> Reply
     reply
 }
 
-// RAND and AUTN of the outstanding vector are given.
+// RAND and AUTN of the outstanding item are given.
 pub fn request(vlr: Vlr) -> Reply
     ensures { λ r. ⌜ answerOf r ≡ spec.request (vlrOf vlr) ⌝ }
 {
@@ -100,24 +102,25 @@ pub fn request(vlr: Vlr) -> Reply
     Reply {
         outcome: Outcome::Done,
         vlr,
-        rand: vector::rand(out),
-        autn: vector::autn(out),
+        rand: vlr_places::rand(out),
+        autn: vlr_places::autn(out),
         auts: [0; aka::AUTS_SIZE],
         ck: [0; aka::CK_SIZE],
         ik: [0; aka::IK_SIZE],
+        kc: [0; aka::KC_SIZE],
     }
 }
 
-// Whether RES is XRES of the outstanding vector. It looks at all octets whatever they are.
+// Whether RES is XRES or SRES of the outstanding item. It looks at all octets whatever they are.
 pub fn res_right(vlr: Vlr, res: &[u8]) -> bool
-    requires { ⌜ length (now res) ≡ resSize ⌝ }
+    requires { ⌜ length (now res) ≡ spec.resSizeOf (spec.kindIn (vlr .out)) ⌝ }
     ensures { λ r. ⌜ r ≡ spec.resRight (vlrOf vlr) (now (res .entry)) ⌝ }
 {
     let out = vlr.out;
-    tokens::equal_without_early_end(vector::res(res), vector::xres(out))
+    vlr_places::is_response(out, res)
 }
 
-// CK and IK are given where RES is right.
+// The keys are given where RES is right: CK and IK of a vector, Kc of a triplet.
 pub fn pass_if(vlr: Vlr, right: bool) -> Reply
     ensures { λ r. ⌜ answerOf r ≡ spec.passIf (vlrOf vlr) right ⌝ }
 {
@@ -131,8 +134,9 @@ pub fn pass_if(vlr: Vlr, right: bool) -> Reply
         rand: [0; aka::RAND_SIZE],
         autn: [0; aka::AUTN_SIZE],
         auts: [0; aka::AUTS_SIZE],
-        ck: vector::ck(out),
-        ik: vector::ik(out),
+        ck: vlr_places::ck(out),
+        ik: vlr_places::ik(out),
+        kc: vlr_places::kc(out),
     }
 }
 
@@ -145,10 +149,11 @@ pub fn resync_request(vlr: Vlr, auts: &[u8]) -> Reply
     Reply {
         outcome: Outcome::Done,
         vlr: none_out(State::Resyncing, vlr),
-        rand: vector::rand(failed),
+        rand: vlr_places::rand(failed),
         autn: [0; aka::AUTN_SIZE],
         auts: octets::fourteen(auts),
         ck: [0; aka::CK_SIZE],
         ik: [0; aka::IK_SIZE],
+        kc: [0; aka::KC_SIZE],
     }
 }

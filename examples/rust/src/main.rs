@@ -1,5 +1,5 @@
-//! A card is issued, challenged, brought out of step and resynchronised. Run,
-//! from the repository's root:
+//! A card is issued, challenged, brought out of step and resynchronised; the
+//! vectors are made triplets too. Run, from the repository's root:
 //!
 //!     rt staticlib vetrhoss
 //!     cargo run --offline --manifest-path examples/rust/Cargo.toml
@@ -13,6 +13,7 @@ use vetrhoss::{AnswerBuffers, Error, Failure, SeqHe, MILENAGE};
 use vetrhoss::{AMF_SIZE, AUC_IMAGE_SIZE, OPC_SIZE, USIM_IMAGE_SIZE, VECTOR_SIZE};
 use vetrhoss::{AUTN_OFFSET, CK_OFFSET, IK_OFFSET, RAND_OFFSET, XRES_OFFSET};
 use vetrhoss::{AUTN_SIZE, AUTS_SIZE, CK_SIZE, IK_SIZE, RAND_SIZE, RES_SIZE};
+use vetrhoss::{KC_OFFSET, KC_SIZE, SRES_OFFSET, SRES_SIZE, TRIPLET_SIZE};
 
 const K: u128 = 0x465b5ce8b199b49faa5f0a2ee238a6bc;
 const OP: u128 = 0xcdc202d5123e20f62b6d676ac72cb318;
@@ -52,6 +53,9 @@ fn main() -> Result<(), Error> {
     let mut batch = [0; VECTORS as usize * VECTOR_SIZE];
     vetrhoss::order(&mut centre, VECTORS.into(), &rands(VECTORS, 0), &mut batch)?;
 
+    println!("the vectors are made triplets");
+    convert(&batch)?;
+
     println!("the first vector is used");
     let first = vector_at(&batch, 0)?;
     expect(
@@ -79,6 +83,19 @@ fn main() -> Result<(), Error> {
     };
     let fresh = resynchronise(&mut centre, failure)?;
     accepted_challenge(&mut card, &vector_at(&fresh, 0)?)
+}
+
+/// The same batch for a GSM phone. Of the triplets the first is shown.
+fn convert(batch: &[u8]) -> Result<(), Error> {
+    let mut triplets = [0; VECTORS as usize * TRIPLET_SIZE];
+    vetrhoss::triplets(batch, &mut triplets)?;
+    expect(
+        triplets[RAND_OFFSET..][..RAND_SIZE] == FIRST_RAND.to_be_bytes(),
+        "RAND stays",
+    );
+    show("SRES", &triplets[SRES_OFFSET..][..SRES_SIZE]);
+    show("Kc  ", &triplets[KC_OFFSET..][..KC_SIZE]);
+    Ok(())
 }
 
 /// OPc from OP, and the two images that a new card begins with.

@@ -12,7 +12,7 @@ use Rattle.usim.proofs.mac_right.Tie as tie
 returns : tie.Need-returns
 unfolding readAutn macRight
 returns c = λ keys rand s e.
-    let made = c .before in
+    let made = c .before .before .before in
     let read = made .before in
     c .equal-without-early-end .ensures
     ∙ ap₂ equal (read .before .eight .ensures)
@@ -22,4 +22,5 @@ pub mac-right-spec : {M : Type 1} → statement M
 mac-right-spec =
     tie.close
     (tie.spec
-    (λ c κs. search needs) (λ c κs. search needs) (λ c κs. search needs) (λ c κs. search needs) returns)
+    (λ c κs. search needs) (λ c κs. search needs) (λ c κs. search needs) (λ c. search needs) (λ c. search needs) (λ c κs. search needs)
+    returns)

@@ -3,7 +3,8 @@ use mathlib.Core.Bool.{true}
 use mathlib.Core.Path.{_≡_, refl, sym, _∙_}
 use borrow.Author.Tests.{eq-eqb, ne-eqb, not-true, not-false}
 use Rattle.usim_record.specs.Views.{sqnGiven, answerOf}
-use Rattle.vetrhoss.specs.Interface.{Returned, UsimOctets, answerSized, usimReturns, challengeCall}
+use Rattle.interface_answers.specs.Answers.{answerSized}
+use Rattle.vetrhoss.specs.Interface.{Returned, UsimOctets, usimReturns, challengeCall}
 use Rattle.vetrhoss.proofs.UsimAnswers.{read-valid, refusal, given, next-valid, handed-on}
 use borrow.Author.Needs.{needs}
 use Rattle.vetrhoss.proofs.vetrhoss_challenge.Statement.{statement}

@@ -9,7 +9,8 @@ use Rattle.aka.specs.Layout.{amfSize}
 use Rattle.aka.specs.Auc.{Auc, newAuc}
 use Rattle.aka.specs.Sequence.{width}
 use Rattle.auc_image.specs.Image.{writeAnswer, format}
-use Rattle.vetrhoss.specs.Interface.{areKeys, newAucCall}
+use Rattle.interface_answers.specs.Answers.{areKeys}
+use Rattle.vetrhoss.specs.Interface.{newAucCall}
 use Rattle.vetrhoss.proofs.NewImages.{returnedOf, auc-written}
 use borrow.Author.Needs.{needs}
 use Rattle.vetrhoss.proofs.vetrhoss_new_auc.Statement.{statement}

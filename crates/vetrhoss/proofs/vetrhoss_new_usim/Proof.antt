@@ -7,7 +7,8 @@ use Rattle.functions.proofs.Protocol.{usim-holds}
 use Rattle.aka.specs.Usim.{Usim, newUsim}
 use Rattle.aka.specs.Sequence.{width}
 use Rattle.usim_image.specs.Image.{writeAnswer, format}
-use Rattle.vetrhoss.specs.Interface.{areKeys, newUsimCall}
+use Rattle.interface_answers.specs.Answers.{areKeys}
+use Rattle.vetrhoss.specs.Interface.{newUsimCall}
 use Rattle.vetrhoss.proofs.NewImages.{returnedOf, usim-written}
 use borrow.Author.Needs.{needs}
 use Rattle.vetrhoss.proofs.vetrhoss_new_usim.Statement.{statement}

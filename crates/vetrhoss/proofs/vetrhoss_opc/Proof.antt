@@ -6,8 +6,9 @@ use Rattle.octets.specs.Octets.{Octets}
 use Rattle.aes.specs.Cipher.{aes}
 use Rattle.milenage.specs.Opc.{opc}
 use Rattle.aka.specs.Layout.{keySize}
-use Rattle.vetrhoss.specs.Interface.{done, areKeys, opcCall}
-use Rattle.vetrhoss.proofs.Sizes.{key-sizes}
+use Rattle.interface_answers.specs.Answers.{areKeys}
+use Rattle.vetrhoss.specs.Interface.{done, opcCall}
+use Rattle.interface_answers.proofs.Sizes.{key-sizes}
 use borrow.Author.Needs.{needs}
 use Rattle.vetrhoss.proofs.vetrhoss_opc.Statement.{statement}
 use Rattle.vetrhoss.proofs.vetrhoss_opc.Tie as tie

@@ -1,6 +1,5 @@
 -- `vetrhoss_order` is `orderCall`. Assumes nothing.
-use mathlib.Core.Bool.{true}
-use mathlib.Core.Path.{_≡_, refl, ap, _∙_}
+use mathlib.Core.Path.{refl, ap, _∙_}
 use borrow.Author.Tests.{eq-eqb, ne-eqb}
 use Rattle.functions.specs.Sets.{sets}
 use Rattle.functions.proofs.Protocol.{auc-holds}

@@ -12,7 +12,7 @@ unfolding store
 returns c = refusal _ _ (c .before .before .store-refusal .ensures) (c .before .if1 .taken) (c .no-octets .ensures)
 
 queued-requires : tie.Need-queued-requires
-queued-requires c κs = store-fits _ _ _ (sym (c .before .store-refusal .ensures) ∙ c .if1 .left)
+queued-requires c κs = store-fits _ _ _ _ (sym (c .before .store-refusal .ensures) ∙ c .if1 .left)
 
 returns-2 : tie.Need-returns-2
 unfolding store

@@ -12,14 +12,14 @@ returns : tie.Need-returns
 unfolding askRefusal
 returns c =
     let state = c .before .before .before in
-    refusal-is _ _ _ (c .refusal-or .ensures) (state .is-idle .ensures)
+    refusal-is _ _ _ _ (c .refusal-or .ensures) (state .is-idle .ensures)
     (ap (λ (b : Bool). cond b 8 0) (sym (eq-eqb (state .before .args .vlr .held) 0 (c .before .if1 .taken))))
 
 returns-2 : tie.Need-returns-2
 unfolding askRefusal
 returns-2 c =
     let state = c .before .before .before in
-    refusal-is _ _ _ (c .refusal-or2 .ensures) (state .is-idle .ensures)
+    refusal-is _ _ _ _ (c .refusal-or2 .ensures) (state .is-idle .ensures)
     (ap (λ (b : Bool). cond b 8 0) (sym (ne-eqb (state .before .args .vlr .held) 0 (c .before .if1 .left))))
 
 pub ask-refusal-spec : {M : Type 1} → statement M

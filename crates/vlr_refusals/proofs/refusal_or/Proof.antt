@@ -21,6 +21,9 @@ counted c = not-false _ (c .if2 .left)
 sized : (c : tie.Else3) → start (c .before .before .before) .args .sized ≡ true
 sized c = not-false _ (c .if3 .left)
 
+good : (c : tie.Else4) → start (c .before .before .before .before) .args .good ≡ true
+good c = not-false _ (c .if4 .left)
+
 returns : tie.Need-returns
 unfolding refusalOr
 returns c =
@@ -46,15 +49,25 @@ returns-4 c =
     let three = c .before in
     let two = three .before in
     let one = two .before in
-    sym (rw (valid one, counted two, sized three, not-true (start (one .before) .args .named) (c .if4 .taken)))
+    sym (rw (valid one, counted two, sized three, not-true (start (one .before) .args .good) (c .if4 .taken)))
 
 returns-5 : tie.Need-returns-5
 unfolding refusalOr
 returns-5 c =
-    let three = c .before in
+    let four = c .before in
+    let three = four .before in
     let two = three .before in
     let one = two .before in
-    sym (rw (valid one, counted two, sized three, not-false (start (one .before) .args .named) (c .if4 .left)) refl)
+    sym (rw (valid one, counted two, sized three, good four, not-true (start (one .before) .args .named) (c .if5 .taken)))
+
+returns-6 : tie.Need-returns-6
+unfolding refusalOr
+returns-6 c =
+    let four = c .before in
+    let three = four .before in
+    let two = three .before in
+    let one = two .before in
+    sym (rw (valid one, counted two, sized three, good four, not-false (start (one .before) .args .named) (c .if5 .left)) refl)
 
 pub refusal-or-spec : {M : Type 1} → statement M
-refusal-or-spec = tie.close (tie.spec (λ c κs. search needs) returns returns-2 returns-3 returns-4 returns-5)
+refusal-or-spec = tie.close (tie.spec (λ c κs. search needs) returns returns-2 returns-3 returns-4 returns-5 returns-6)

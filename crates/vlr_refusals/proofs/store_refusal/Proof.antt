@@ -11,14 +11,14 @@ returns : tie.Need-returns
 unfolding storeRefusal
 returns c =
     let room = c .before .before in
-    refusal-is _ _ _ (c .batch-refusal .ensures) (ap not (room .before .is-resyncing .ensures))
+    refusal-is _ _ _ _ (c .batch-refusal .ensures) (ap not (room .before .is-resyncing .ensures))
     (ap (λ (b : Bool). cond b 0 9) (sym (c .before .if1 .taken) ∙ room .has-room .ensures))
 
 returns-2 : tie.Need-returns-2
 unfolding storeRefusal
 returns-2 c =
     let room = c .before .before in
-    refusal-is _ _ _ (c .batch-refusal2 .ensures) (ap not (room .before .is-resyncing .ensures))
+    refusal-is _ _ _ _ (c .batch-refusal2 .ensures) (ap not (room .before .is-resyncing .ensures))
     (ap (λ (b : Bool). cond b 0 9) (sym (c .before .if1 .left) ∙ room .has-room .ensures))
 
 pub store-refusal-spec : {M : Type 1} → statement M

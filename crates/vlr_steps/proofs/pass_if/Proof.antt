@@ -17,17 +17,18 @@ returns c =
 returns-2 : tie.Need-returns-2
 unfolding passIf
 returns-2 c =
-    let next = c .before .before in
+    let next = c .before .before .before in
     let test = next .before .before in
     rw (
       not-false (test .before .args .right) (test .if1 .left),
       next .none-out .ensures,
-      c .before .ck .ensures,
-      c .ik .ensures,
+      c .before .before .ck .ensures,
+      c .before .ik .ensures,
+      c .kc .ensures,
     ) refl
 
 pub pass-if-spec : {M : Type 1} → statement M
 pass-if-spec =
     tie.close
     (tie.spec
-    (λ c κs. search needs) returns (λ c κs. search needs) (λ c κs. search needs) (λ c κs. search needs) returns-2)
+    (λ c κs. search needs) returns (λ c κs. search needs) (λ c κs. search needs) (λ c κs. search needs) (λ c κs. search needs) returns-2)

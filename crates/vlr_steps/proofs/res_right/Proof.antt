@@ -1,6 +1,4 @@
 -- `res_right` is `resRight`. Assumes nothing.
-use mathlib.Core.Path.{ap₂, _∙_}
-use Rattle.octets.specs.Octets.{equal}
 use Rattle.aka.specs.Vlr.{resRight}
 use borrow.Author.Needs.{needs}
 use Rattle.vlr_steps.proofs.res_right.Statement.{statement}
@@ -8,7 +6,7 @@ use Rattle.vlr_steps.proofs.res_right.Tie as tie
 
 returns : tie.Need-returns
 unfolding resRight
-returns c = c .equal-without-early-end .ensures ∙ ap₂ equal (c .before .before .res .ensures) (c .before .xres .ensures)
+returns c = c .is-response .ensures
 
 pub res-right-spec : {M : Type 1} → statement M
-res-right-spec = tie.close (tie.spec (λ c κs. search needs) (λ c κs. search needs) (λ c κs. search needs) returns)
+res-right-spec = tie.close (tie.spec (λ c κs. search needs) returns)
