@@ -1,4 +1,4 @@
--- The laws of the conversion into triplets, and a worked vector. Assumes nothing.
+-- The laws of the conversion into triplets, and two worked vectors. Assumes nothing.
 use Prim.Native.Nat.{ℕ, _+_, _-_, _*_, _/_, _<_}
 use mathlib.Core.Bool.{Bool, true, false, cond, and-eq-true-iff}
 use mathlib.Core.List.{[], _∷_, _++_}
@@ -19,6 +19,53 @@ use Rattle.aka.proofs.Layouts.{TripletSized, length-triplet, read-tripl
 use Rattle.aka.proofs.Held.{part-before}
 use Rattle.aka.proofs.Offsets.{BatchOf, batch-of, how-many, is-batch}
 use Rattle.aka.proofs.VlrPlaces.{placed-run, length-item}
+
+-- ---- worked vectors
+
+-- K 00 01 .. 0f, OPc and RAND zero: Kc is zero for this K
+abbrev sample : Vector
+sample = record {
+  rand = zeros 16;
+  xres = 0 ∷ 1 ∷ 2 ∷ 3 ∷ 4 ∷ 5 ∷ 6 ∷ 7 ∷ [];
+  ck = 1 ∷ 2 ∷ 3 ∷ 4 ∷ 5 ∷ 6 ∷ 7 ∷ 8 ∷ 9 ∷ 10 ∷ 11 ∷ 12 ∷ 13 ∷ 14 ∷ 15 ∷ 0 ∷ [];
+  ik = 2 ∷ 3 ∷ 4 ∷ 5 ∷ 6 ∷ 7 ∷ 8 ∷ 9 ∷ 10 ∷ 11 ∷ 12 ∷ 13 ∷ 14 ∷ 15 ∷ 0 ∷ 1 ∷ [];
+  autn = zeros 16;
+}
+
+-- each octet of SRES and Kc has another value
+abbrev other : Vector
+other = record {
+  rand = replicate 16 9;
+  xres = 255 ∷ 1 ∷ 2 ∷ 4 ∷ 8 ∷ 16 ∷ 32 ∷ 64 ∷ [];
+  ck = 1 ∷ 2 ∷ 4 ∷ 8 ∷ 16 ∷ 32 ∷ 64 ∷ 128 ∷ zeros 8;
+  ik = zeros 8 ++ (128 ∷ 64 ∷ 32 ∷ 16 ∷ 8 ∷ 4 ∷ 2 ∷ 255 ∷ []);
+  autn = zeros 16;
+}
+
+pub record Worked : Type 0 where
+  pub sample-is : writeTriplet (tripletOf sample) ≡ zeros 16 ++ replicate 4 4 ++ zeros 8
+  pub other-is : writeTriplet (tripletOf other)
+      ≡ replicate 16 9 ++ (247 ∷ 17 ∷ 34 ∷ 68 ∷ []) ++ (129 ∷ 66 ∷ 36 ∷ 24 ∷ 24 ∷ 36 ∷ 66 ∷ 127 ∷ [])
+  -- each limit of the sizes: one to five vectors
+  pub none : convert [] [] .refusal ≡ 3
+  pub one : convert (zeros 72) (zeros 28) .refusal ≡ 0
+  pub five : convert (zeros 360) (zeros 140) .refusal ≡ 0
+  pub six : convert (zeros 432) (zeros 168) .refusal ≡ 3
+  pub small : convert (zeros 144) (zeros 28) .refusal ≡ 3
+  pub broken : convert (zeros 73) (zeros 28) .refusal ≡ 3
+
+pub worked : Worked
+unfolding tripletOf sresOf kcOf xor writeTriplet convert sizesFit
+worked = record {
+  sample-is = refl;
+  other-is = refl;
+  none = refl;
+  one = refl;
+  five = refl;
+  six = refl;
+  small = refl;
+  broken = refl;
+}
 
 -- ---- SRES and Kc
 
@@ -147,50 +194,3 @@ triplet-promise = record {
         → readTriplet (itemOf triplet (convert batch buffer .buffer) k) ≡ tripletOf (vectorAt batch k)
     made batch buffer n s k lt =
         ap (λ (c : Converted). readTriplet (itemOf triplet (c .buffer) k)) (taken batch buffer n s) ∙ read-at batch n (s .vectors) k lt
-
--- ---- worked vectors
-
--- K 00 01 .. 0f, OPc and RAND zero: Kc is zero for this K
-abbrev sample : Vector
-sample = record {
-  rand = zeros 16;
-  xres = 0 ∷ 1 ∷ 2 ∷ 3 ∷ 4 ∷ 5 ∷ 6 ∷ 7 ∷ [];
-  ck = 1 ∷ 2 ∷ 3 ∷ 4 ∷ 5 ∷ 6 ∷ 7 ∷ 8 ∷ 9 ∷ 10 ∷ 11 ∷ 12 ∷ 13 ∷ 14 ∷ 15 ∷ 0 ∷ [];
-  ik = 2 ∷ 3 ∷ 4 ∷ 5 ∷ 6 ∷ 7 ∷ 8 ∷ 9 ∷ 10 ∷ 11 ∷ 12 ∷ 13 ∷ 14 ∷ 15 ∷ 0 ∷ 1 ∷ [];
-  autn = zeros 16;
-}
-
--- each octet of SRES and Kc has another value
-abbrev other : Vector
-other = record {
-  rand = replicate 16 9;
-  xres = 255 ∷ 1 ∷ 2 ∷ 4 ∷ 8 ∷ 16 ∷ 32 ∷ 64 ∷ [];
-  ck = 1 ∷ 2 ∷ 4 ∷ 8 ∷ 16 ∷ 32 ∷ 64 ∷ 128 ∷ zeros 8;
-  ik = zeros 8 ++ (128 ∷ 64 ∷ 32 ∷ 16 ∷ 8 ∷ 4 ∷ 2 ∷ 255 ∷ []);
-  autn = zeros 16;
-}
-
-pub record Worked : Type 0 where
-  pub sample-is : writeTriplet (tripletOf sample) ≡ zeros 16 ++ replicate 4 4 ++ zeros 8
-  pub other-is : writeTriplet (tripletOf other)
-      ≡ replicate 16 9 ++ (247 ∷ 17 ∷ 34 ∷ 68 ∷ []) ++ (129 ∷ 66 ∷ 36 ∷ 24 ∷ 24 ∷ 36 ∷ 66 ∷ 127 ∷ [])
-  -- each limit of the sizes: one to five vectors
-  pub none : convert [] [] .refusal ≡ 3
-  pub one : convert (zeros 72) (zeros 28) .refusal ≡ 0
-  pub five : convert (zeros 360) (zeros 140) .refusal ≡ 0
-  pub six : convert (zeros 432) (zeros 168) .refusal ≡ 3
-  pub small : convert (zeros 144) (zeros 28) .refusal ≡ 3
-  pub broken : convert (zeros 73) (zeros 28) .refusal ≡ 3
-
-pub worked : Worked
-unfolding tripletOf sresOf kcOf xor writeTriplet convert sizesFit
-worked = record {
-  sample-is = refl;
-  other-is = refl;
-  none = refl;
-  one = refl;
-  five = refl;
-  six = refl;
-  small = refl;
-  broken = refl;
-}

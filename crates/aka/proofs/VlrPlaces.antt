@@ -21,75 +21,6 @@ use Rattle.aka.specs.VlrLaws.{Holds, Good}
 use Rattle.aka.proofs.Layouts.{length-joined, part-joined}
 use Rattle.aka.proofs.Held.{all-zeros, length-zeros, zero-from, part-before}
 
--- ---- an item in its place
-
-module _ (kind : Kind) (item : Octets) (size : length item ≡ itemSize kind) where
-  -- no item is longer than a vector
-  pub item-fits : length item ≤ vectorSize
-  item-fits = go kind size
-    where
-      go : (k : Kind) → length item ≡ itemSize k → length item ≤ vectorSize
-      go vector e = omega arith
-      go triplet e = omega arith
-
-  pub length-placed : length (placed kind item) ≡ placeSize
-  length-placed =
-      let n = vectorSize - length item in
-      let fits = item-fits in
-      let rest : length (item ++ zeros n) ≡ length item + n
-      = length-append item (zeros n) ∙ ap (λ (m : ℕ). length item + m) (length-zeros n) in
-      omega arith
-
-  -- the octet of its kind, and zeros behind
-  pub placed-holds : holds kind (placed kind item) ≡ true
-  placed-holds =
-      rw (eq-eqb (kindOctet kind) (kindOctet kind) refl, drop-at item (zeros (vectorSize - length item)) (itemSize kind) size)
-      (all-zeros (vectorSize - length item))
-
-pub placed-good : (kind : Kind) (item : Octets) → length item ≡ itemSize kind → goodPlace (placed kind item) ≡ true
-unfolding goodPlace
-placed-good vector item size = rw (placed-holds vector item size)
-placed-good triplet item size = placed-holds triplet item size
-
-pub placed-kind : (kind : Kind) (item : Octets) → kindIn (placed kind item) ≡ kind
-placed-kind vector item = refl
-placed-kind triplet item = refl
-
-pub placed-run : (kind : Kind) (item : Octets) → length item ≡ itemSize kind → runIn (placed kind item) ≡ runOf kind item
-unfolding readTriplet
-placed-run vector item size =
-    let none : vectorSize - length item ≡ 0 = omega arith in
-    ap (λ (x : Octets). runOf vector x) (ap (λ (n : ℕ). item ++ zeros n) none ∙ append-nil item)
-placed-run triplet item size =
-    let behind = zeros (vectorSize - length item) in
-    ap tripletRun (λ i. record {
-      rand = part-before 0 randSize item behind (omega arith) i;
-      sres = part-before sresAt sresSize item behind (omega arith) i;
-      kc = part-before kcAt kcSize item behind (omega arith) i;
-    })
-
--- ---- the places of a batch
-
-module _ (kind : Kind) (batch : Octets) (count : ℕ) (size : length batch ≡ itemSize kind * count) where
-  pub length-item : (k : ℕ) → k < count → length (itemOf kind batch k) ≡ itemSize kind
-  length-item k lt = length-part (itemSize kind * k) (itemSize kind) batch (go kind size)
-    where
-      go : (s : Kind) → length batch ≡ itemSize s * count → itemSize s * k + itemSize s ≤ length batch
-      go vector e = omega arith
-      go triplet e = omega arith
-
-  length-each : (k : ℕ) → k < count → length (placed kind (itemOf kind batch k)) ≡ placeSize
-  length-each k lt = length-placed kind (itemOf kind batch k) (length-item k lt)
-
-  pub length-places : length (placesOf kind batch count) ≡ placeSize * count
-  length-places = length-joined (λ k. placed kind (itemOf kind batch k)) placeSize count length-each
-
-  pub place-of : (k : ℕ) → k < count → placeAt (placesOf kind batch count) k ≡ placed kind (itemOf kind batch k)
-  place-of k lt = part-joined (λ j. placed kind (itemOf kind batch j)) placeSize count length-each k lt
-
-  pub place-good : (k : ℕ) → k < count → goodPlace (placeAt (placesOf kind batch count) k) ≡ true
-  place-good k lt = ap goodPlace (place-of k lt) ∙ placed-good kind (itemOf kind batch k) (length-item k lt)
-
 -- ---- good places
 
 holds-iff : (kind : Kind) (place : Octets) → (holds kind place ≡ true) ↔ Holds kind place
@@ -133,3 +64,74 @@ good-each queue n = (to n, from n)
     from : (n : ℕ) → ((k : ℕ) → k < n → goodPlace (placeAt queue k) ≡ true) → goodPlaces queue n ≡ true
     from zero each = refl
     from (suc n) each = rw (from n (λ k lt. each k (omega arith))) (each n (omega arith))
+
+-- ---- an item in its place
+
+module _ (kind : Kind) (item : Octets) (size : length item ≡ itemSize kind) where
+  -- no item is longer than a vector
+  pub item-fits : length item ≤ vectorSize
+  item-fits = go kind size
+    where
+      go : (k : Kind) → length item ≡ itemSize k → length item ≤ vectorSize
+      go vector e = omega arith
+      go triplet e = omega arith
+
+  pub length-placed : length (placed kind item) ≡ placeSize
+  length-placed =
+      let n = vectorSize - length item in
+      let fits = item-fits in
+      let rest : length (item ++ zeros n) ≡ length item + n
+      = length-append item (zeros n) ∙ ap (λ (m : ℕ). length item + m) (length-zeros n) in
+      omega arith
+
+  -- the octet of its kind, and zeros behind
+  placed-holds : Holds kind (placed kind item)
+  placed-holds =
+      let behind = zeros (vectorSize - length item) in (
+        refl,
+        zero-from (itemSize kind) (item ++ behind) .0
+            (ap allZero (drop-at item behind (itemSize kind) size) ∙ all-zeros (vectorSize - length item)),
+      )
+
+pub placed-good : (kind : Kind) (item : Octets) → length item ≡ itemSize kind → goodPlace (placed kind item) ≡ true
+placed-good vector item size = good-iff (placed vector item) .1 (inl (placed-holds vector item size))
+placed-good triplet item size = good-iff (placed triplet item) .1 (inr (placed-holds triplet item size))
+
+pub placed-kind : (kind : Kind) (item : Octets) → kindIn (placed kind item) ≡ kind
+placed-kind vector item = refl
+placed-kind triplet item = refl
+
+pub placed-run : (kind : Kind) (item : Octets) → length item ≡ itemSize kind → runIn (placed kind item) ≡ runOf kind item
+unfolding readTriplet
+placed-run vector item size =
+    let none : vectorSize - length item ≡ 0 = omega arith in
+    ap (λ (x : Octets). runOf vector x) (ap (λ (n : ℕ). item ++ zeros n) none ∙ append-nil item)
+placed-run triplet item size =
+    let behind = zeros (vectorSize - length item) in
+    ap tripletRun (λ i. record {
+      rand = part-before 0 randSize item behind (omega arith) i;
+      sres = part-before sresAt sresSize item behind (omega arith) i;
+      kc = part-before kcAt kcSize item behind (omega arith) i;
+    })
+
+-- ---- the places of a batch
+
+module _ (kind : Kind) (batch : Octets) (count : ℕ) (size : length batch ≡ itemSize kind * count) where
+  pub length-item : (k : ℕ) → k < count → length (itemOf kind batch k) ≡ itemSize kind
+  length-item k lt = length-part (itemSize kind * k) (itemSize kind) batch (go kind size)
+    where
+      go : (s : Kind) → length batch ≡ itemSize s * count → itemSize s * k + itemSize s ≤ length batch
+      go vector e = omega arith
+      go triplet e = omega arith
+
+  length-each : (k : ℕ) → k < count → length (placed kind (itemOf kind batch k)) ≡ placeSize
+  length-each k lt = length-placed kind (itemOf kind batch k) (length-item k lt)
+
+  pub length-places : length (placesOf kind batch count) ≡ placeSize * count
+  length-places = length-joined (λ k. placed kind (itemOf kind batch k)) placeSize count length-each
+
+  pub place-of : (k : ℕ) → k < count → placeAt (placesOf kind batch count) k ≡ placed kind (itemOf kind batch k)
+  place-of k lt = part-joined (λ j. placed kind (itemOf kind batch j)) placeSize count length-each k lt
+
+  pub place-good : (k : ℕ) → k < count → goodPlace (placeAt (placesOf kind batch count) k) ≡ true
+  place-good k lt = ap goodPlace (place-of k lt) ∙ placed-good kind (itemOf kind batch k) (length-item k lt)

@@ -63,7 +63,9 @@ pub fn with_batch(
     requires room { ⌜ held + count ≤ mostHeld ⌝ }
     requires size { ⌜ length (now batch) ≡ itemSize (kindOf kind) * count ⌝ }
     ensures { λ r. ⌜
-        r ≡ take (placeSize * held) queue ++ placesOf (kindOf kind) (now (batch .entry)) count ++ drop (placeSize * (held + count)) queue
+        r
+        ≡ take (placeSize * held) queue ++ placesOf (kindOf kind) (now (batch .entry)) count
+        ++ drop (placeSize * held + length (placesOf (kindOf kind) (now (batch .entry)) count)) queue
         ⌝ }
 {
     let mut next = queue;

@@ -10,7 +10,7 @@ use Rattle.octets.proofs.PartByPart.{Filled, put-next}
 use Rattle.aka.specs.Layout.{joined}
 use Rattle.aka.specs.Vlr.{mostHeld, placeSize, placed, itemOf, placesOf}
 use Rattle.aka.proofs.Layouts.{joined-next}
-use Rattle.aka.proofs.VlrPlaces.{length-placed, length-item}
+use Rattle.aka.proofs.VlrPlaces.{length-placed, length-item, length-places}
 use Rattle.vlr_places.specs.Views.{kindOf}
 use Rattle.vlr_places.proofs.Items.{item-inside}
 use borrow.Author.Needs.{needs}
@@ -102,10 +102,16 @@ returns : tie.Need-returns Inv-loop μ-loop
 returns c =
     let at : At = c .before in
     let args = entry at .args in
+    let kind = kindOf (args .kind) in
+    let batch = args .batch .now in
     let end : at .loop .k ≡ args .count = omega arith in
+    let size = length-places kind batch (args .count) (entry at .pre .1) in
+    let behind : placeSize * (args .held + args .count) ≡ placeSize * args .held + length (placesOf kind batch (args .count))
+    = omega arith in
+    let front : Octets = take (placeSize * args .held) (args .queue) in
     at .loop .inv .2 .is
-    ∙ ap (λ (n : ℕ). take (placeSize * args .held) (args .queue) ++ placesOf (kindOf (args .kind)) (args .batch .now) n
-    ++ drop (placeSize * (args .held + n)) (args .queue)) end
+    ∙ ap (λ (n : ℕ). front ++ placesOf kind batch n ++ drop (placeSize * (args .held + n)) (args .queue)) end
+    ∙ ap (λ (n : ℕ). front ++ placesOf kind batch (args .count) ++ drop n (args .queue)) behind
 
 pub with-batch-spec : {M : Type 1} → statement M
 with-batch-spec =
