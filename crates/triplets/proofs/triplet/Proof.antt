@@ -1,9 +1,9 @@
 -- `triplet` is RAND, SRES and Kc, one behind the other. Assumes nothing.
-use Prim.Native.Nat.{_+_}
+use Prim.Native.Nat.{ℕ, _+_}
 use mathlib.Core.List.{[], _++_, append-assoc}
 use mathlib.Core.Path.{_≡_, refl, ap, ap₂, _∙_}
 use native.Mathlib.Omega.{arith}
-use lib.ListN.{length}
+use lib.ListN.{length, drop}
 use Rattle.octets.specs.Octets.{Octets, zeros, part}
 use Rattle.octets.proofs.Parts.{length-part}
 use Rattle.octets.proofs.PartByPart.{Filled, put-next, filled-all}
@@ -34,8 +34,8 @@ with-rand c =
     let e = entry (made c) in
     let rand = part 0 randSize (e .args .vector .now) in
     let size : length rand ≡ randSize = length-part 0 randSize (e .args .vector .now) (omega (arith, e .pre)) in
-    put-next {done = []} {at = 0} rand randSize (record { size = refl; is = refl }) (rw size at (c .put .ensures)) (c .put .kept .0)
-    (omega arith)
+    let put = c .put .ensures ∙ ap (λ (n : ℕ). rand ++ drop (0 + n) (zeros tripletSize)) size in
+    put-next {done = []} {at = 0} rand randSize (record { size = refl; is = refl }) put (c .put .kept .0) (omega arith)
 
 with-sres : (c : tie.After-put2) →
     let m = made (first c) in
