@@ -10,7 +10,7 @@ use lib.Seq.{drop-drop}
 use Rattle.octets.specs.Octets.{Octets, zeros, part}
 use Rattle.aka.specs.Layout.{Kind, vector, triplet, randSize, ckAt, ckSize, ikAt, ikSize, autnAt, autnSize, xresAt, kcAt, kcSize}
 use Rattle.aka.specs.Layout.{readVector, readTriplet, tripletSize, vectorSize, itemSize, resSize, sresSize}
-use Rattle.aka.specs.Vlr.{mostHeld, placeSize, placeAt, goodPlaces, kindIn, itemIn, isVector, vectorRun, tripletRun, runOf}
+use Rattle.aka.specs.Vlr.{Run, mostHeld, placeSize, placeAt, goodPlaces, kindIn, itemIn, isVector, vectorRun, tripletRun, runOf}
 use Rattle.aka.specs.Vlr.{runIn, resSizeOf, allZero, goodPlace}
 use Rattle.aka.proofs.VlrPlaces.{good-each}
 
@@ -69,29 +69,27 @@ module _ (place : Octets) where
       go vector = of-item xresAt (resSizeOf vector)
       go triplet = of-item xresAt (resSizeOf triplet)
 
+  -- what a vector has and a triplet has not
+  part-or-zeros : (field : Run → Octets) (at n : ℕ) → field (runOf vector (itemIn place)) ≡ part at n (itemIn place)
+      → field (runOf triplet (itemIn place)) ≡ zeros n
+      → cond (isVector (kindIn place)) (part (1 + at) n place) (zeros n) ≡ field (runIn place)
+  part-or-zeros field at n of-vector of-triplet = go (kindIn place)
+    where
+      go : (kind : Kind) → cond (isVector kind) (part (1 + at) n place) (zeros n) ≡ field (runOf kind (itemIn place))
+      go vector = of-item at n ∙ sym of-vector
+      go triplet = sym of-triplet
+
   pub autn-is : cond (isVector (kindIn place)) (part (1 + autnAt) autnSize place) (zeros autnSize) ≡ runIn place .autn
   unfolding vectorRun tripletRun readVector
-  autn-is = go (kindIn place)
-    where
-      go : (kind : Kind) → cond (isVector kind) (part (1 + autnAt) autnSize place) (zeros autnSize) ≡ runOf kind (itemIn place) .autn
-      go vector = of-item autnAt autnSize
-      go triplet = refl
+  autn-is = part-or-zeros (λ run. run .autn) autnAt autnSize refl refl
 
   pub ck-is : cond (isVector (kindIn place)) (part (1 + ckAt) ckSize place) (zeros ckSize) ≡ runIn place .ck
   unfolding vectorRun tripletRun readVector
-  ck-is = go (kindIn place)
-    where
-      go : (kind : Kind) → cond (isVector kind) (part (1 + ckAt) ckSize place) (zeros ckSize) ≡ runOf kind (itemIn place) .ck
-      go vector = of-item ckAt ckSize
-      go triplet = refl
+  ck-is = part-or-zeros (λ run. run .ck) ckAt ckSize refl refl
 
   pub ik-is : cond (isVector (kindIn place)) (part (1 + ikAt) ikSize place) (zeros ikSize) ≡ runIn place .ik
   unfolding vectorRun tripletRun readVector
-  ik-is = go (kindIn place)
-    where
-      go : (kind : Kind) → cond (isVector kind) (part (1 + ikAt) ikSize place) (zeros ikSize) ≡ runOf kind (itemIn place) .ik
-      go vector = of-item ikAt ikSize
-      go triplet = refl
+  ik-is = part-or-zeros (λ run. run .ik) ikAt ikSize refl refl
 
   pub kc-is : cond (isVector (kindIn place)) (zeros kcSize) (part (1 + kcAt) kcSize place) ≡ runIn place .kc
   unfolding vectorRun tripletRun readTriplet
