@@ -196,7 +196,7 @@ pub record Meets (h : History) (x : Handled) : Type 0 where
   pub gives : isTaken (x .answer) ≡ true → Gives (x .call) h (x .answer)
   -- a refused call gives no octet
   pub refused : isTaken (x .answer) ≡ false → given (x .answer) ≡ nothing
-  -- the positions that leave rise strictly: none is asked twice, none after a later one, none that was dropped
+  -- the positions that leave rise strictly: none is asked twice, none after a later one, and none that was dropped
   pub rising : Rising (positions (after h x .gone))
   -- the next record
   pub keeps : x .answer .vlr ≡ recordOf (after h x)

@@ -1,10 +1,10 @@
 -- `put_at` is the vector at place k, put into the batch. Assumes nothing.
-use Prim.Native.Nat.{_+_, _*_}
+use Prim.Native.Nat.{ℕ, _+_, _*_}
 use mathlib.Core.List.{_++_}
-use mathlib.Core.Path.{_≡_, ap₂, _∙_}
+use mathlib.Core.Path.{_≡_, ap, ap₂, _∙_}
 use native.Mathlib.Nat.{add-sub-cancel-left}
 use lib.ListN.{take, drop}
-use Rattle.octets.specs.Octets.{Octets}
+use Rattle.octets.specs.Octets.{Octets, part}
 use Rattle.functions.specs.Challenge.{keysOf}
 use Rattle.functions.specs.Sets.{sets}
 use Rattle.aka.specs.Layout.{randSize, vectorSize, randAt, writeVector}
@@ -25,7 +25,10 @@ abbrev entry : tie.After-sixteen → tie.Start
 entry c = c .before .before .before .before .before .before
 
 rand-is : (c : tie.After-sixteen) → c .sixteen .result ≡ randAt (entry c .args .rands .now) (entry c .args .k)
-rand-is c = rw (add-sub-cancel-left (randSize * entry c .args .k) randSize) at (c .sixteen .ensures)
+rand-is c =
+    let args = entry c .args in
+    let at = randSize * args .k in
+    c .sixteen .ensures ∙ ap (λ (n : ℕ). part at n (args .rands .now)) (add-sub-cancel-left at randSize)
 
 put-vector-requires : tie.Need-put-vector-requires
 put-vector-requires c κs =
