@@ -154,7 +154,10 @@ readTriplet x = record { rand = part 0 randSize x; sres = part sresAt sresSize x
 pub data Kind : Type 0 where
   vector triplet : Kind
 
--- the octet that names the kind
+-- what stands before an item in octets that hold either kind: one octet that names the kind
+abbrev pub kindSize : ℕ
+kindSize = 1
+
 abbrev pub kindOctet : Kind → ℕ
 kindOctet vector = 0
 kindOctet triplet = 1

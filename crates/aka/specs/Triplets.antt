@@ -9,8 +9,11 @@ use Rattle.octets.specs.Octets.{Octets, zeros, part, xor}
 use Rattle.aka.specs.Layout.{Vector, Triplet, sresSize, kcSize, tripletSize, vectorSize, writeTriplet, vectorAt, isBatch, joined}
 
 -- XRES*: XRES, and zeros to 16 octets
+abbrev pub paddedSize : ℕ
+paddedSize = 16
+
 abbrev pub padded : (xres : Octets) → Octets
-padded xres = xres ++ zeros (16 - length xres)
+padded xres = xres ++ zeros (paddedSize - length xres)
 
 -- the quarters of XRES*, the halves of CK and IK; they count from 0
 abbrev pub quarter : ℕ → Octets → Octets

@@ -6,8 +6,9 @@ use mathlib.Core.List.{[], _∷_, _++_}
 use lib.Dec.{eqb, leb}
 use lib.ListN.{length, getD, take, drop}
 use Rattle.octets.specs.Octets.{Octets, zeros, part, equal}
-use Rattle.aka.specs.Layout.{Vector, Triplet, Kind, vector, triplet, kindOctet, itemSize, vectorSize, readVector, readTriplet}
-use Rattle.aka.specs.Layout.{randSize, resSize, ckSize, ikSize, autnSize, autsSize, sresSize, kcSize, mostVectors, joined}
+use Rattle.aka.specs.Layout.{Vector, Triplet, Kind, vector, triplet, kindSize, kindOctet, itemSize, vectorSize, readVector}
+use Rattle.aka.specs.Layout.{readTriplet, randSize, resSize, ckSize, ikSize, autnSize, autsSize, sresSize, kcSize, mostVectors}
+use Rattle.aka.specs.Layout.{joined}
 
 -- the most items held: vectors and triplets together
 abbrev pub mostHeld : ℕ
@@ -17,7 +18,7 @@ mostHeld = 16
 
 -- the octets of a place, held or outstanding: the kind, then room for either kind's item
 abbrev pub placeSize : ℕ  -- 73
-placeSize = 1 + vectorSize
+placeSize = kindSize + vectorSize
 
 -- an item in its place; zeros follow a triplet
 abbrev pub placed : Kind → (item : Octets) → Octets
@@ -43,7 +44,7 @@ isVector vector = true
 isVector triplet = false
 
 abbrev pub itemIn : (place : Octets) → Octets
-itemIn place = drop 1 place
+itemIn place = drop kindSize place
 
 -- ---- a run (document 02's word): one authentication with an item
 

@@ -75,6 +75,14 @@ pub const KC_AT: usize = SRES_AT + SRES_SIZE;
 
 pub const TRIPLET_SIZE: usize = KC_AT + KC_SIZE;
 
+// ---- the two kinds: what stands before an item in octets that hold either, and how the octet names them
+
+pub const KIND_SIZE: usize = 1;
+
+pub const VECTOR_KIND: u8 = 0;
+
+pub const TRIPLET_KIND: u8 = 1;
+
 // ---- the handset: its answer has RES, CK and IK; its store has RAND, and the answer behind it
 
 // Where CK and IK begin in an answer.
@@ -103,6 +111,6 @@ pub const DEFAULT_COUNT: u8 = 5;
 pub const MOST_HELD: usize = 16;
 
 // The octets of a place, held or outstanding: the kind, then room for either kind's item. And of all places.
-pub const PLACE_SIZE: usize = 1 + VECTOR_SIZE;
+pub const PLACE_SIZE: usize = KIND_SIZE + VECTOR_SIZE;
 
 pub const QUEUE_SIZE: usize = PLACE_SIZE * MOST_HELD;

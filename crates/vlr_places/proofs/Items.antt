@@ -9,7 +9,7 @@ use lib.ListN.{length, getD, take, drop, drop-of-length-le}
 use lib.Seq.{drop-drop}
 use Rattle.octets.specs.Octets.{Octets, zeros, part}
 use Rattle.aka.specs.Layout.{Kind, vector, triplet, randSize, ckAt, ckSize, ikAt, ikSize, autnAt, autnSize, xresAt, kcAt, kcSize}
-use Rattle.aka.specs.Layout.{readVector, readTriplet, tripletSize, vectorSize, itemSize, resSize, sresSize}
+use Rattle.aka.specs.Layout.{kindSize, readVector, readTriplet, tripletSize, vectorSize, itemSize, resSize, sresSize}
 use Rattle.aka.specs.Vlr.{Run, mostHeld, placeSize, placeAt, goodPlaces, kindIn, itemIn, isVector, vectorRun, tripletRun, runOf}
 use Rattle.aka.specs.Vlr.{runIn, resSizeOf, allZero, goodPlace}
 use Rattle.aka.proofs.VlrPlaces.{good-each}
@@ -50,52 +50,52 @@ item-inside triplet k count lt = omega arith
 
 module _ (place : Octets) where
   -- octets of the item
-  of-item : (at n : ℕ) → part (1 + at) n place ≡ part at n (itemIn place)
-  of-item at n = ap (take n) (sym (drop-drop at 1 place))
+  of-item : (at n : ℕ) → part (kindSize + at) n place ≡ part at n (itemIn place)
+  of-item at n = ap (take n) (sym (drop-drop at kindSize place))
 
-  pub rand-is : part 1 randSize place ≡ runIn place .rand
+  pub rand-is : part kindSize randSize place ≡ runIn place .rand
   unfolding vectorRun tripletRun readVector readTriplet
   rand-is = go (kindIn place)
     where
-      go : (kind : Kind) → part 1 randSize place ≡ runOf kind (itemIn place) .rand
+      go : (kind : Kind) → part kindSize randSize place ≡ runOf kind (itemIn place) .rand
       go vector = refl
       go triplet = refl
 
-  pub response-is : part (1 + xresAt) (resSizeOf (kindIn place)) place ≡ runIn place .response
+  pub response-is : part (kindSize + xresAt) (resSizeOf (kindIn place)) place ≡ runIn place .response
   unfolding vectorRun tripletRun readVector readTriplet
   response-is = go (kindIn place)
     where
-      go : (kind : Kind) → part (1 + xresAt) (resSizeOf kind) place ≡ runOf kind (itemIn place) .response
+      go : (kind : Kind) → part (kindSize + xresAt) (resSizeOf kind) place ≡ runOf kind (itemIn place) .response
       go vector = of-item xresAt (resSizeOf vector)
       go triplet = of-item xresAt (resSizeOf triplet)
 
   -- what a vector has and a triplet has not
   part-or-zeros : (field : Run → Octets) (at n : ℕ) → field (runOf vector (itemIn place)) ≡ part at n (itemIn place)
       → field (runOf triplet (itemIn place)) ≡ zeros n
-      → cond (isVector (kindIn place)) (part (1 + at) n place) (zeros n) ≡ field (runIn place)
+      → cond (isVector (kindIn place)) (part (kindSize + at) n place) (zeros n) ≡ field (runIn place)
   part-or-zeros field at n of-vector of-triplet = go (kindIn place)
     where
-      go : (kind : Kind) → cond (isVector kind) (part (1 + at) n place) (zeros n) ≡ field (runOf kind (itemIn place))
+      go : (kind : Kind) → cond (isVector kind) (part (kindSize + at) n place) (zeros n) ≡ field (runOf kind (itemIn place))
       go vector = of-item at n ∙ sym of-vector
       go triplet = sym of-triplet
 
-  pub autn-is : cond (isVector (kindIn place)) (part (1 + autnAt) autnSize place) (zeros autnSize) ≡ runIn place .autn
+  pub autn-is : cond (isVector (kindIn place)) (part (kindSize + autnAt) autnSize place) (zeros autnSize) ≡ runIn place .autn
   unfolding vectorRun tripletRun readVector
   autn-is = part-or-zeros (λ run. run .autn) autnAt autnSize refl refl
 
-  pub ck-is : cond (isVector (kindIn place)) (part (1 + ckAt) ckSize place) (zeros ckSize) ≡ runIn place .ck
+  pub ck-is : cond (isVector (kindIn place)) (part (kindSize + ckAt) ckSize place) (zeros ckSize) ≡ runIn place .ck
   unfolding vectorRun tripletRun readVector
   ck-is = part-or-zeros (λ run. run .ck) ckAt ckSize refl refl
 
-  pub ik-is : cond (isVector (kindIn place)) (part (1 + ikAt) ikSize place) (zeros ikSize) ≡ runIn place .ik
+  pub ik-is : cond (isVector (kindIn place)) (part (kindSize + ikAt) ikSize place) (zeros ikSize) ≡ runIn place .ik
   unfolding vectorRun tripletRun readVector
   ik-is = part-or-zeros (λ run. run .ik) ikAt ikSize refl refl
 
-  pub kc-is : cond (isVector (kindIn place)) (zeros kcSize) (part (1 + kcAt) kcSize place) ≡ runIn place .kc
+  pub kc-is : cond (isVector (kindIn place)) (zeros kcSize) (part (kindSize + kcAt) kcSize place) ≡ runIn place .kc
   unfolding vectorRun tripletRun readTriplet
   kc-is = go (kindIn place)
     where
-      go : (kind : Kind) → cond (isVector kind) (zeros kcSize) (part (1 + kcAt) kcSize place) ≡ runOf kind (itemIn place) .kc
+      go : (kind : Kind) → cond (isVector kind) (zeros kcSize) (part (kindSize + kcAt) kcSize place) ≡ runOf kind (itemIn place) .kc
       go vector = refl
       go triplet = of-item kcAt kcSize
 
@@ -106,16 +106,16 @@ module _ (place : Octets) where
   unfolding goodPlace allZero
   good-vector size e =
       let behind : drop vectorSize (itemIn place) ≡ []
-      = drop-drop vectorSize 1 place ∙ drop-of-length-le place {i = 1 + vectorSize} (omega arith) in
+      = drop-drop vectorSize kindSize place ∙ drop-of-length-le place {i = kindSize + vectorSize} (omega arith) in
       rw (e, behind)
 
   pub bad-kind : (getD place 0 0 ≡ 0 → ⊥) → (getD place 0 0 ≡ 1 → ⊥) → goodPlace place ≡ false
   unfolding goodPlace
   bad-kind other another = rw (ne-eqb (getD place 0 0) 0 other, ne-eqb (getD place 0 0) 1 another)
 
-  pub good-triplet : getD place 0 0 ≡ 1 → goodPlace place ≡ allZero (drop (1 + tripletSize) place)
+  pub good-triplet : getD place 0 0 ≡ 1 → goodPlace place ≡ allZero (drop (kindSize + tripletSize) place)
   unfolding goodPlace
-  good-triplet e = rw e (ap allZero (drop-drop tripletSize 1 place))
+  good-triplet e = rw e (ap allZero (drop-drop tripletSize kindSize place))
 
 -- one bad place is enough
 pub bad-place : (queue : Octets) (n k : ℕ) → k < n → goodPlace (placeAt queue k) ≡ false → goodPlaces queue n ≡ false

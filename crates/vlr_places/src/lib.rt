@@ -21,8 +21,8 @@ fn kind_octet(kind: Kind) -> u8
     ensures { λ r. ⌜ r ≡ kindOctet (kindOf kind) ⌝ }
 {
     match kind {
-        Kind::Vector => 0,
-        Kind::Triplet => 1,
+        Kind::Vector => aka::VECTOR_KIND,
+        Kind::Triplet => aka::TRIPLET_KIND,
     }
 }
 
@@ -39,7 +39,7 @@ pub fn item_size(kind: Kind) -> usize
 pub fn has_vector(place: [u8; aka::PLACE_SIZE]) -> bool
     ensures { λ r. ⌜ r ≡ isVector (kindIn place) ⌝ }
 {
-    place[0] == 0
+    place[0] == aka::VECTOR_KIND
 }
 
 // ---- tests
@@ -62,13 +62,13 @@ pub fn is_good(place: &[u8]) -> bool
     requires { ⌜ length (now place) ≡ placeSize ⌝ }
     ensures { λ r. ⌜ r ≡ goodPlace (now (place .entry)) ⌝ }
 {
-    if place[0] == 0 {
+    if place[0] == aka::VECTOR_KIND {
         return true;
     }
-    if place[0] != 1 {
+    if place[0] != aka::TRIPLET_KIND {
         return false;
     }
-    all_zero(&place[1 + aka::TRIPLET_SIZE..])
+    all_zero(&place[aka::KIND_SIZE + aka::TRIPLET_SIZE..])
 }
 
 // ---- an item in its place
@@ -79,7 +79,7 @@ fn placed_item(kind: Kind, item: &[u8]) -> [u8; aka::PLACE_SIZE]
 {
     let mut place = [0u8; aka::PLACE_SIZE];
     place[0] = kind_octet(kind);
-    octets::put(&mut place, 1, item);
+    octets::put(&mut place, aka::KIND_SIZE, item);
     place
 }
 
@@ -119,25 +119,25 @@ fn of_vector(place: [u8; aka::PLACE_SIZE], at: usize) -> [u8; 16]
 pub fn rand(place: [u8; aka::PLACE_SIZE]) -> [u8; aka::RAND_SIZE]
     ensures { λ r. ⌜ r ≡ runIn place .rand ⌝ }
 {
-    sixteen(place, 1)
+    sixteen(place, aka::KIND_SIZE)
 }
 
 pub fn autn(place: [u8; aka::PLACE_SIZE]) -> [u8; aka::AUTN_SIZE]
     ensures { λ r. ⌜ r ≡ runIn place .autn ⌝ }
 {
-    of_vector(place, 1 + aka::AUTN_AT)
+    of_vector(place, aka::KIND_SIZE + aka::AUTN_AT)
 }
 
 pub fn ck(place: [u8; aka::PLACE_SIZE]) -> [u8; aka::CK_SIZE]
     ensures { λ r. ⌜ r ≡ runIn place .ck ⌝ }
 {
-    of_vector(place, 1 + aka::CK_AT)
+    of_vector(place, aka::KIND_SIZE + aka::CK_AT)
 }
 
 pub fn ik(place: [u8; aka::PLACE_SIZE]) -> [u8; aka::IK_SIZE]
     ensures { λ r. ⌜ r ≡ runIn place .ik ⌝ }
 {
-    of_vector(place, 1 + aka::IK_AT)
+    of_vector(place, aka::KIND_SIZE + aka::IK_AT)
 }
 
 pub fn kc(place: [u8; aka::PLACE_SIZE]) -> [u8; aka::KC_SIZE]
@@ -147,7 +147,10 @@ pub fn kc(place: [u8; aka::PLACE_SIZE]) -> [u8; aka::KC_SIZE]
     if has_vector(place) {
         return kc;
     }
-    bytes::copy(&place[1 + aka::KC_AT..1 + aka::TRIPLET_SIZE], &mut kc);
+    bytes::copy(
+        &place[aka::KIND_SIZE + aka::KC_AT..aka::KIND_SIZE + aka::TRIPLET_SIZE],
+        &mut kc,
+    );
     kc
 }
 
@@ -167,5 +170,8 @@ pub fn is_response(place: [u8; aka::PLACE_SIZE], res: &[u8]) -> bool
     ensures { λ r. ⌜ r ≡ equal (now (res .entry)) (runIn place .response) ⌝ }
 {
     let size = response_size(place);
-    octets::equal_without_early_end(res, &place[1 + aka::XRES_AT..1 + aka::XRES_AT + size])
+    octets::equal_without_early_end(
+        res,
+        &place[aka::KIND_SIZE + aka::XRES_AT..aka::KIND_SIZE + aka::XRES_AT + size],
+    )
 }

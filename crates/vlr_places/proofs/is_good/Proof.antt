@@ -3,7 +3,7 @@ use Prim.Native.Nat.{_+_}
 use mathlib.Core.Path.{refl, sym, ap, _∙_}
 use lib.ListN.{length}
 use Rattle.octets.proofs.Copies.{rest}
-use Rattle.aka.specs.Layout.{tripletSize}
+use Rattle.aka.specs.Layout.{kindSize, tripletSize}
 use Rattle.aka.specs.Vlr.{allZero}
 use Rattle.vlr_places.proofs.Items.{good-vector, bad-kind, good-triplet}
 use borrow.Author.Needs.{needs}
@@ -26,7 +26,7 @@ returns-3 c =
     let entry = second .before .before .before .before .before in
     let place = entry .args .place .now in
     c .all-zero .ensures
-    ∙ ap allZero (rest place (1 + tripletSize) (length place) refl)
+    ∙ ap allZero (rest place (kindSize + tripletSize) (length place) refl)
     ∙ sym (good-triplet place (second .if2 .left))
 
 pub is-good-spec : {M : Type 1} → statement M

@@ -4,17 +4,22 @@ use mathlib.Core.Path.{_≡_, ap, _∙_}
 use native.Mathlib.Omega.{arith}
 use Rattle.octets.specs.Octets.{Octets, equal, part}
 use Rattle.octets.proofs.Parts.{length-part}
+use Rattle.aka.specs.Layout.{kindSize, xresAt}
 use Rattle.aka.specs.Vlr.{kindIn, runIn, resSizeOf}
 use Rattle.vlr_places.proofs.Items.{most-response, response-is}
 use borrow.Author.Needs.{needs}
 use Rattle.vlr_places.proofs.is_response.Statement.{statement}
 use Rattle.vlr_places.proofs.is_response.Tie as tie
 
+-- where the response stands in a place
+abbrev start : ℕ
+start = kindSize + xresAt
+
 -- the part compared is the run's response
-compared : (place : Octets) (n : ℕ) → n ≡ resSizeOf (kindIn place) → part 17 (17 + n - 17) place ≡ runIn place .response
+compared : (place : Octets) (n : ℕ) → n ≡ resSizeOf (kindIn place) → part start (start + n - start) place ≡ runIn place .response
 compared place n e =
-    let size : 17 + n - 17 ≡ resSizeOf (kindIn place) = omega arith in
-    ap (λ (m : ℕ). part 17 m place) size ∙ response-is place
+    let size : start + n - start ≡ resSizeOf (kindIn place) = omega arith in
+    ap (λ (m : ℕ). part start m place) size ∙ response-is place
 
 -- ---- the stations
 
@@ -32,7 +37,7 @@ same-size c κs =
     let place = entry at .args .t1 in
     let size = at .before .response-size .ensures in
     let most = most-response (kindIn place) in
-    let long = length-part 17 (17 + at .before .response-size .result - 17) place (omega (arith, entry at .good .0 .1 .0 .1)) in
+    let long = length-part start (start + at .before .response-size .result - start) place (omega (arith, entry at .good .0 .1 .0 .1)) in
     omega (arith, entry at .pre)
 
 returns : tie.Need-returns

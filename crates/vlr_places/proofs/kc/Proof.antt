@@ -6,7 +6,7 @@ use native.Mathlib.Omega.{arith}
 use Rattle.octets.specs.Octets.{Octets, zeros, part}
 use Rattle.octets.proofs.Copies.{copied-whole}
 use Rattle.octets.proofs.Parts.{length-part}
-use Rattle.aka.specs.Layout.{kcAt, kcSize}
+use Rattle.aka.specs.Layout.{kindSize, kcAt, kcSize}
 use Rattle.aka.specs.Vlr.{kindIn, isVector, runIn}
 use Rattle.vlr_places.proofs.Items.{kc-is}
 use borrow.Author.Needs.{needs}
@@ -17,7 +17,7 @@ use Rattle.vlr_places.proofs.kc.Tie as tie
 zeros-are : (place : Octets) → isVector (kindIn place) ≡ true → zeros kcSize ≡ runIn place .kc
 zeros-are place e = sym (sym (kc-is place) ∙ rw e)
 
-part-is : (place : Octets) → isVector (kindIn place) ≡ false → part (1 + kcAt) kcSize place ≡ runIn place .kc
+part-is : (place : Octets) → isVector (kindIn place) ≡ false → part (kindSize + kcAt) kcSize place ≡ runIn place .kc
 part-is place e = sym (sym (kc-is place) ∙ rw e)
 
 returns : tie.Need-returns
@@ -29,8 +29,8 @@ returns-2 c =
     let test = copied .before .before .before in
     let entry = test .before .before .before in
     let place = entry .args .t1 in
-    copied-whole (part (1 + kcAt) kcSize place) (zeros kcSize) (copied .copy .ensures .1) refl
-    (length-part (1 + kcAt) kcSize place (omega (arith, entry .good .0 .1 .0 .1)))
+    copied-whole (part (kindSize + kcAt) kcSize place) (zeros kcSize) (copied .copy .ensures .1) refl
+    (length-part (kindSize + kcAt) kcSize place (omega (arith, entry .good .0 .1 .0 .1)))
     ∙ part-is place (sym (test .before .before .has-vector .ensures) ∙ test .before .if1 .left)
 
 pub kc-spec : {M : Type 1} → statement M

@@ -7,7 +7,7 @@ use lib.ListN.{length}
 use Rattle.octets.specs.Octets.{Octets, zeros}
 use Rattle.octets.proofs.PartByPart.{put-first, put-next}
 use Rattle.octets.proofs.Strings.{drop-zeros}
-use Rattle.aka.specs.Layout.{vectorSize}
+use Rattle.aka.specs.Layout.{kindSize, vectorSize}
 use Rattle.aka.specs.Vlr.{placeSize}
 use Rattle.vlr_places.specs.Views.{kindOf}
 use Rattle.vlr_places.proofs.Items.{most-item}
@@ -34,10 +34,10 @@ returns c =
     let empty = zeros placeSize in
     let all = put-next item n (put-first empty octet (omega arith)) (put .put .ensures) (put .put .kept .0)
     (omega (arith, fits (put .before))) in
-    let rest : placeSize - (1 + n) ≡ vectorSize - n = omega arith in
+    let rest : placeSize - (kindSize + n) ≡ vectorSize - n = omega arith in
     all .is
     ∙ ap₂ (λ (o : ℕ) (l : Octets). o ∷ (item ++ l)) (put .before .before .kind-octet .ensures)
-    (drop-zeros placeSize (1 + n) ∙ ap zeros rest)
+    (drop-zeros placeSize (kindSize + n) ∙ ap zeros rest)
 
 pub placed-item-spec : {M : Type 1} → statement M
 placed-item-spec =
