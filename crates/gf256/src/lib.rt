@@ -2,7 +2,7 @@
 ghost use mathlib.Core.Path.{_≡_};
 ghost use Rattle.gf256.specs.Field.{xtime, times};
 
-// `b` times x. The top bit picks what is taken off, so that no branch depends on it.
+// `b` times x. The top bit picks what is taken off, so that no branch depends on it; the gate sees to that.
 pub fn double(b: u8) -> u8
     ensures { λ r. ⌜ r ≡ xtime b ⌝ }
 {
