@@ -9,6 +9,8 @@
 # A call of the library reads an image, checks all that it is lent, and writes the image. The second program is timed on its records, which
 # costs it no image, and with its own images. libosmogsm keeps a record in memory; osmo_auth_gen_vec, its public function, also derives the
 # GSM keys, so the function behind it, which doesn't, is timed too where the library has it.
+# A card's image is timed in each edition: an accepted challenge, and reading and writing alone, as far as the interface can show them: a
+# challenge that is refused behind the reading, and a new card.
 # At the end stands the bench program beside the second program's (bench.sh).
 set -euo pipefail
 cd "$(dirname "$0")/.."

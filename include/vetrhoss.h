@@ -13,9 +13,13 @@
  * Every function returns one number: VETRHOSS_NUMBER(result) says what happened, VETRHOSS_VALUE(result) goes with it and
  * is 0 where nothing else is said. On a refusal (1 to 9) every buffer, images among them, stays octet for octet as it was.
  *
+ * Each image carries its edition, 1 or 2, in the first four bits. It says how many indices SQN has, how high SEQ may go and
+ * what size the image has. A call leaves an image in the edition that it came in. A card and a centre of unlike editions are
+ * not refused, and nothing is promised of the two together.
+ *
  * An image that is lent is read first, and what its reading refuses is the call's answer, before every other refusal: 3 for
- * another size (the contents are then not looked at), else 1 for an unknown edition or function set. Of the refusals behind
- * it the lowest number that applies is given.
+ * size 0, then 1 for an unknown edition, whatever the size is, then 3 for another size than that edition's, then 1 for an
+ * unknown function set. Of the refusals behind it the lowest number that applies is given.
  */
 #ifndef VETRHOSS_H
 #define VETRHOSS_H
@@ -50,6 +54,11 @@ extern "C" {
 #define VETRHOSS_KEPT 0
 #define VETRHOSS_RESET 1
 
+/* Editions. The first has 32 indices, one for each batch; the second 64, one for each vector, so that a vector among the last 50
+ * may come late. */
+#define VETRHOSS_EDITION_1 1
+#define VETRHOSS_EDITION_2 2
+
 /* Function sets. */
 #define VETRHOSS_TEST_SET 0 /* without any secrecy: for trying things out only */
 #define VETRHOSS_MILENAGE 1
@@ -67,8 +76,12 @@ extern "C" {
 #define VETRHOSS_AUTS_SIZE 14
 #define VETRHOSS_SRES_SIZE 4
 #define VETRHOSS_KC_SIZE 8
-#define VETRHOSS_USIM_IMAGE_SIZE 205
-#define VETRHOSS_AUC_IMAGE_SIZE 41
+
+/* Sizes of images in octets, by edition. */
+#define VETRHOSS_USIM_IMAGE_SIZE_1 205
+#define VETRHOSS_USIM_IMAGE_SIZE_2 369
+#define VETRHOSS_AUC_IMAGE_SIZE_1 41
+#define VETRHOSS_AUC_IMAGE_SIZE_2 41
 
 /* A vector, and where its parts begin; XRES has the size of RES. A batch is 1 to 5 vectors one behind the other. */
 #define VETRHOSS_VECTOR_SIZE 72
@@ -92,28 +105,28 @@ extern "C" {
 uint64_t vetrhoss_opc(const uint8_t *k, size_t k_size, const uint8_t *op, size_t op_size, uint8_t *opc, size_t opc_size);
 
 /*
- * The image of a new card, whose 32 places are all 0.
- * set: 0 or 1. k, opc: 16 octets each, read. image: 205, written.
- * Refusals: 1 a set above 1; 3.
+ * The image of a new card, whose places are all 0.
+ * edition: 1 or 2. set: 0 or 1. k, opc: 16 octets each, read. image: 205 in edition 1, 369 in edition 2, written.
+ * Refusals: 1 an unknown edition, or a set above 1; then 3.
  */
-uint64_t vetrhoss_new_usim(uint8_t set, const uint8_t *k, size_t k_size, const uint8_t *opc, size_t opc_size, uint8_t *image,
-                           size_t image_size);
+uint64_t vetrhoss_new_usim(uint8_t edition, uint8_t set, const uint8_t *k, size_t k_size, const uint8_t *opc, size_t opc_size,
+                           uint8_t *image, size_t image_size);
 
 /*
  * The image of a new centre record for one subscriber, whose SEQ_HE and next index are 0.
- * set: 0 or 1. k, opc: 16 octets each, amf: 2, read. image: 41, written.
- * Refusals: 1 a set above 1; 3.
+ * edition: 1 or 2. set: 0 or 1. k, opc: 16 octets each, amf: 2, read. image: 41 in either edition, written.
+ * Refusals: 1 an unknown edition, or a set above 1; then 3.
  */
-uint64_t vetrhoss_new_auc(uint8_t set, const uint8_t *k, size_t k_size, const uint8_t *opc, size_t opc_size, const uint8_t *amf,
-                          size_t amf_size, uint8_t *image, size_t image_size);
+uint64_t vetrhoss_new_auc(uint8_t edition, uint8_t set, const uint8_t *k, size_t k_size, const uint8_t *opc, size_t opc_size,
+                          const uint8_t *amf, size_t amf_size, uint8_t *image, size_t image_size);
 
 /*
  * The card's answer to a challenge.
- * image: the card's 205 octets, read, and updated in place on acceptance only. rand, autn: 16 each, read.
+ * image: the card's 205 or 369 octets, read, and updated in place on acceptance only. rand, autn: 16 each, read.
  * res: 8, ck, ik: 16 each, auts: 14, all four written; what a verdict does not give is zeros.
- * Number 0: accepted; the value is the accepted SQN (48 bits); res, ck and ik are given.
+ * Number 0: accepted; the value is the accepted SQN (48 bits: SEQ, then 5 or 6 of the index); res, ck and ik are given.
  * Number 20: MAC failure; nothing is given. Number 21: synchronisation failure; auts is given.
- * Refusals: the image's, 3 or 1; then 3 any other buffer.
+ * Refusals: the image's, 1 or 3; then 3 any other buffer.
  */
 uint64_t vetrhoss_challenge(uint8_t *image, size_t image_size, const uint8_t *rand, size_t rand_size, const uint8_t *autn,
                             size_t autn_size, uint8_t *res, size_t res_size, uint8_t *ck, size_t ck_size, uint8_t *ik,
@@ -124,7 +137,8 @@ uint64_t vetrhoss_challenge(uint8_t *image, size_t image_size, const uint8_t *ra
  * image: the centre's 41 octets, read, and updated in place when the batch is given: store it before a vector is used.
  * count: 1 to 5 vectors, or 0 for 5; n is the number that results.
  * rands: 16 n octets, read: unpredictable, no two RANDs equal. batch: 72 n, written.
- * Refusals: the image's, 3 or 1, whatever the count is; then 2, 3, 4 (see VETRHOSS_FIRST and VETRHOSS_SECOND), 6.
+ * Refusals: the image's, 1 or 3, whatever the count is; then 2, 3, 4 (see VETRHOSS_FIRST and VETRHOSS_SECOND), and 6 where the
+ * last SEQ would pass 8,796,093,022,207 in edition 1, or 4,398,046,511,103 in edition 2.
  */
 uint64_t vetrhoss_order(uint8_t *image, size_t image_size, uint64_t count, const uint8_t *rands, size_t rands_size, uint8_t *batch,
                         size_t batch_size);

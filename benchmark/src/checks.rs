@@ -14,6 +14,7 @@ pub fn check(load: &Load, peer: Option<Peer>) {
     let vectors = ours::vectors(load);
     second_vectors(load, &vectors);
     challenges(load, &vectors);
+    assert_eq!(ours::new_card(load), ours::card(load));
     let k = &load.auc.subscriber.k;
     assert_eq!(ours::opc(k, &load.op), milenage::opc(k, &load.op));
     triplets(load, peer);
@@ -27,7 +28,7 @@ pub fn check(load: &Load, peer: Option<Peer>) {
 fn records(load: &Load) -> impl Iterator<Item = Auc> + '_ {
     (0..load.rands.len()).map(|number| Auc {
         seq_he: number as u64,
-        next: (number % 32) as u8,
+        next: (number % load.auc.row().indices()) as u8,
         ..load.auc.clone()
     })
 }
@@ -75,7 +76,8 @@ fn triplets(load: &Load, peer: Option<Peer>) {
     let mut random = Random::new(33_102);
     for rands in load.rands.chunks(MOST) {
         let (k, opc) = (random.bytes(), random.bytes());
-        let auc = Auc::new(Subscriber { set: 1, k, opc }, random.bytes());
+        let subscriber = Subscriber { set: 1, k, opc };
+        let auc = Auc::new(load.auc.edition, subscriber, random.bytes());
         let (batch, triplets) = ours::triplets(&auc, &rands.concat());
         let mut second = vec![0; triplets.len()];
         triplet::convert(&batch, &mut second).expect("triplets");

@@ -1,7 +1,9 @@
-//! What all contenders are given: one subscriber of set 1, and the same RANDs.
+//! What all contenders are given: one subscriber of set 1, a card and a centre of
+//! one edition, and the same RANDs.
 
 use reference::auc::Auc;
 use reference::block::Block;
+use reference::editions::Edition;
 use reference::functions::Subscriber;
 use reference::milenage;
 use reference::random::Random;
@@ -25,7 +27,7 @@ pub struct Failure {
 }
 
 impl Load {
-    pub fn new() -> Load {
+    pub fn new(edition: &Edition) -> Load {
         let mut random = Random::new(35_206);
         let (k, op) = (random.bytes(), random.bytes());
         let opc = milenage::opc(&k, &op);
@@ -36,8 +38,8 @@ impl Load {
         }
         Load {
             op,
-            auc: Auc::new(subscriber.clone(), random.bytes()),
-            card: Card::new(subscriber),
+            auc: Auc::new(edition.number, subscriber.clone(), random.bytes()),
+            card: Card::new(edition.number, subscriber),
             rands,
         }
     }

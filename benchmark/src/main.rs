@@ -11,6 +11,7 @@ mod work;
 
 use load::Load;
 use peer::Peer;
+use reference::editions::{EDITION_1, EDITION_2};
 
 /// The fewest rounds whose median says something.
 const FEWEST: usize = 7;
@@ -20,11 +21,13 @@ fn main() {
     let rounds = arguments.first().and_then(|rounds| rounds.parse().ok());
     let rounds = rounds.unwrap_or(FEWEST).max(FEWEST);
     let peer = arguments.get(1).map(|file| Peer::load(file));
-    let load = Load::new();
+    let [load, later] = [EDITION_1, EDITION_2].map(|edition| Load::new(&edition));
     checks::check(&load, peer);
+    // The peer's indices have the width of edition 1.
+    checks::check(&later, None);
     println!("set 1 (MILENAGE), the same keys and RANDs for all; checked: all give the same vectors, triplets, keys and OPc");
 
-    let mut measures = work::measures(&load, peer);
+    let mut measures = work::measures(&load, &later, peer);
     for measure in &mut measures {
         measure.warm_up();
     }

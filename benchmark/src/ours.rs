@@ -1,9 +1,10 @@
 //! The proved library's calls, each of which has to be done.
 
 use reference::auc::Auc;
+use reference::usim::Card;
 use reference::vector::{Bytes, Vector};
 use reference::{auc_image, image};
-use vetrhoss::{AnswerBuffers, SeqHe, AUTS_SIZE, CK_SIZE, IK_SIZE, OPC_SIZE, RAND_SIZE};
+use vetrhoss::{AnswerBuffers, Error, SeqHe, AUTS_SIZE, CK_SIZE, IK_SIZE, OPC_SIZE, RAND_SIZE};
 use vetrhoss::{RES_SIZE, TRIPLET_SIZE, VECTOR_SIZE};
 
 use crate::load::{Failure, Load};
@@ -43,12 +44,35 @@ pub fn opc(k: &[u8], op: &[u8]) -> [u8; OPC_SIZE] {
     opc
 }
 
-pub fn centre(load: &Load) -> [u8; auc_image::LENGTH] {
+pub fn centre(load: &Load) -> Vec<u8> {
     auc_image::image(&load.auc).expect("a valid record")
 }
 
-pub fn card(load: &Load) -> [u8; image::LENGTH] {
+pub fn card(load: &Load) -> Vec<u8> {
     image::image(&load.card).expect("a valid card")
+}
+
+/// The image of a card is read, and then the call is refused for want of a RAND.
+pub fn read_card(image: &mut [u8]) {
+    let (mut keys, mut auts) = ([0; KEYS_SIZE], [0; AUTS_SIZE]);
+    let (res, both) = keys.split_at_mut(RES_SIZE);
+    let (ck, ik) = both.split_at_mut(CK_SIZE);
+    let auts = &mut auts;
+    let answer = AnswerBuffers { res, ck, ik, auts };
+    let refused = vetrhoss::challenge(image, &[], &[], answer);
+    assert_eq!(refused, Err(Error::BadSize));
+}
+
+/// The image of a new card is written.
+pub fn write_card(card: &Card, image: &mut [u8]) {
+    let keys = &card.subscriber;
+    vetrhoss::new_usim(card.edition, keys.set, &keys.k, &keys.opc, image).expect("a new card");
+}
+
+pub fn new_card(load: &Load) -> Vec<u8> {
+    let mut image = vec![0; load.card.row().card_image()];
+    write_card(&load.card, &mut image);
+    image
 }
 
 /// A vector for every RAND, each of a batch of its own.

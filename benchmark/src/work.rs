@@ -14,11 +14,17 @@ const OURS: &str = "vetrhoss";
 const RECORDS: &str = "second program, records (no image)";
 const IMAGES: &str = "second program, images read and written";
 
-pub fn measures(load: &Load, peer: Option<Peer>) -> Vec<Measure> {
+/// The second load is of a later edition, whose card image is longer.
+pub fn measures(load: &Load, later: &Load, peer: Option<Peer>) -> Vec<Measure> {
     vec![
         orders("order in batches of 5: one vector", 5, load, peer),
         orders("order in batches of 1: one vector", 1, load, peer),
-        challenges(load),
+        challenges("accepted challenge, the card carried on", load),
+        challenges("the same with a card of edition 2", later),
+        reading("a card's image read, edition 1", load),
+        reading("a card's image read, edition 2", later),
+        writing("a new card's image written, edition 1", load),
+        writing("a new card's image written, edition 2", later),
         resynchronisations(
             "resynchronisation with reset and a batch of 1",
             1,
@@ -97,13 +103,13 @@ fn peer_vectors(load: &Load, peer: Peer, vector: impl Fn(&[u8; 16])) -> impl FnM
 }
 
 /// Each round begins with a new card, which accepts every challenge.
-fn challenges(load: &Load) -> Measure {
+fn challenges(name: &'static str, load: &Load) -> Measure {
     let vectors = ours::vectors(load);
     let new = ours::card(load);
-    let measure = Measure::new("accepted challenge, the card carried on", RANDS);
-    let asked = vectors.clone();
+    let measure = Measure::new(name, RANDS);
+    let (asked, begun) = (vectors.clone(), new.clone());
     let measure = measure.with(OURS, move || {
-        let mut image = new;
+        let mut image = begun.clone();
         for vector in &asked {
             black_box(ours::challenge(&mut image, black_box(vector)));
         }
@@ -117,7 +123,7 @@ fn challenges(load: &Load) -> Measure {
         }
     });
     measure.with(IMAGES, move || {
-        let mut image = new;
+        let mut image = new.clone();
         for vector in &vectors {
             let card = image::read(&image).expect("a valid image");
             let answer = black_box(card.challenge(&vector.rand, black_box(&vector.autn)));
@@ -126,14 +132,51 @@ fn challenges(load: &Load) -> Measure {
     })
 }
 
+/// The library has no call that does nothing but read; a challenge without a RAND
+/// is refused as soon as the image is read.
+fn reading(name: &'static str, load: &Load) -> Measure {
+    let mut image = ours::card(load);
+    let again = image.clone();
+    Measure::new(name, RANDS)
+        .with("vetrhoss, a challenge refused behind it", move || {
+            for _ in 0..RANDS {
+                ours::read_card(black_box(&mut image));
+            }
+        })
+        .with("second program, the image alone", move || {
+            for _ in 0..RANDS {
+                black_box(image::read(black_box(&again)).expect("a valid image"));
+            }
+        })
+}
+
+fn writing(name: &'static str, load: &Load) -> Measure {
+    let (card, mut image) = (load.card.clone(), ours::card(load));
+    let (again, mut second) = (card.clone(), image.clone());
+    Measure::new(name, RANDS)
+        .with(OURS, move || {
+            for _ in 0..RANDS {
+                ours::write_card(black_box(&card), &mut image);
+                black_box(&image);
+            }
+        })
+        .with("second program, the image alone", move || {
+            for _ in 0..RANDS {
+                image::write(black_box(&again), &mut second).expect("its size");
+                black_box(&second);
+            }
+        })
+}
+
 /// Every call begins with a new centre, to which the card is ahead.
 fn resynchronisations(name: &'static str, size: usize, load: &Load, peer: Option<Peer>) -> Measure {
     let batches = load.batches(size);
     let measure = Measure::new(name, batches.len());
     let (new, failure, mut batch) = (ours::centre(load), load.failure(), vec![0; LENGTH * size]);
+    let mut image = new.clone();
     let measure = measure.with(OURS, move || {
         for rands in &batches {
-            let mut image = new;
+            image.copy_from_slice(&new);
             ours::resynchronise(&mut image, &failure, black_box(rands), &mut batch);
             black_box((&image, &batch));
         }

@@ -11,6 +11,7 @@ extern "C" {
     ) -> u64;
 
     pub fn vetrhoss_new_usim(
+        edition: u8,
         set: u8,
         k: *const u8,
         k_size: usize,
@@ -21,6 +22,7 @@ extern "C" {
     ) -> u64;
 
     pub fn vetrhoss_new_auc(
+        edition: u8,
         set: u8,
         k: *const u8,
         k_size: usize,

@@ -16,6 +16,11 @@ pub const SYNCH_FAILURE: u8 = 21;
 pub const KEPT: u64 = 0;
 pub const RESET: u64 = 1;
 
+/// Editions. The first has 32 indices, one for each batch; the second 64, one
+/// for each vector, so that a vector among the last 50 may come late.
+pub const EDITION_1: u8 = 1;
+pub const EDITION_2: u8 = 2;
+
 /// Function sets. The first has no secrecy at all: for trying things out only.
 pub const TEST_SET: u8 = 0;
 pub const MILENAGE: u8 = 1;
@@ -33,8 +38,12 @@ pub const IK_SIZE: usize = 16;
 pub const AUTS_SIZE: usize = 14;
 pub const SRES_SIZE: usize = 4;
 pub const KC_SIZE: usize = 8;
-pub const USIM_IMAGE_SIZE: usize = 205;
-pub const AUC_IMAGE_SIZE: usize = 41;
+
+/// Sizes of images in octets, by edition.
+pub const USIM_IMAGE_SIZE_1: usize = 205;
+pub const USIM_IMAGE_SIZE_2: usize = 369;
+pub const AUC_IMAGE_SIZE_1: usize = 41;
+pub const AUC_IMAGE_SIZE_2: usize = 41;
 
 /// A vector, and where its parts begin; XRES has the size of RES. A batch is 1
 /// to 5 vectors one behind the other.

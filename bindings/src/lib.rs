@@ -43,10 +43,11 @@ pub fn opc(k: &[u8], op: &[u8], opc: &mut [u8]) -> Result<(), Error> {
     })
 }
 
-/// The image of a new card.
-pub fn new_usim(set: u8, k: &[u8], opc: &[u8], image: &mut [u8]) -> Result<(), Error> {
+/// The image of a new card of an edition.
+pub fn new_usim(edition: u8, set: u8, k: &[u8], opc: &[u8], image: &mut [u8]) -> Result<(), Error> {
     no_value(unsafe {
         c::vetrhoss_new_usim(
+            edition,
             set,
             k.as_ptr(),
             k.len(),
@@ -58,10 +59,18 @@ pub fn new_usim(set: u8, k: &[u8], opc: &[u8], image: &mut [u8]) -> Result<(), E
     })
 }
 
-/// The image of a new centre record.
-pub fn new_auc(set: u8, k: &[u8], opc: &[u8], amf: &[u8], image: &mut [u8]) -> Result<(), Error> {
+/// The image of a new centre record of an edition.
+pub fn new_auc(
+    edition: u8,
+    set: u8,
+    k: &[u8],
+    opc: &[u8],
+    amf: &[u8],
+    image: &mut [u8],
+) -> Result<(), Error> {
     no_value(unsafe {
         c::vetrhoss_new_auc(
+            edition,
             set,
             k.as_ptr(),
             k.len(),

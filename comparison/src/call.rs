@@ -1,5 +1,6 @@
 //! A call of an exported function, as data.
 
+use reference::editions;
 use vetrhoss::DONE;
 
 /// What a call returned: a number of the header, and the value that goes with it.
@@ -41,18 +42,36 @@ pub const ALL: [Function; 8] = [
     Function::Triplets,
 ];
 
+/// What a function is told in numbers: the edition and the set; or the count or
+/// the place, and 0; or zeros.
+pub type Numbers = [u64; 2];
+
 /// The buffers stand in the order of the header, and hold what they hold before
 /// the call.
 #[derive(Clone, Debug)]
 pub struct Call {
     pub function: Function,
-    /// The set, the count or the place, for a function that takes one.
-    pub number: u64,
+    pub numbers: Numbers,
     pub buffers: Vec<Vec<u8>>,
 }
 
-/// Whoever answers a call: it is given the number and lent the buffers.
-pub type Answers = dyn Fn(Function, u64, Vec<&mut [u8]>) -> Answer;
+impl Call {
+    /// The edition of the image that is asked for or lent; 0 where there is none
+    /// or it is unknown.
+    pub fn edition(&self) -> u8 {
+        let named = match self.function {
+            Function::NewUsim | Function::NewAuc => self.numbers[0] as u8,
+            Function::Challenge | Function::Order | Function::Resynchronise => {
+                self.buffers[0].first().map_or(0, |first| first >> 4)
+            }
+            Function::Opc | Function::VectorAt | Function::Triplets => 0,
+        };
+        editions::of(named).map_or(0, |edition| edition.number)
+    }
+}
+
+/// Whoever answers a call: it is given the numbers and lent the buffers.
+pub type Answers = dyn Fn(Function, Numbers, Vec<&mut [u8]>) -> Answer;
 
 /// The buffers of one function by name.
 pub fn named<const N: usize>(lent: Vec<&mut [u8]>) -> [&mut [u8]; N] {

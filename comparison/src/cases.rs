@@ -1,15 +1,17 @@
-//! Random calls: most of them with one damage or none, some with several.
+//! Random calls of each edition: most of them with one damage or none, some with
+//! several.
 
 use reference::auc::Auc;
 use reference::block::Block;
+use reference::editions::{Edition, KNOWN};
 use reference::functions::Subscriber;
 use reference::random::Random;
-use reference::usim::{sqn, sqn_bytes, Card, D, PLACES, SEQ_LIMIT};
+use reference::usim::{sqn_bytes, Card, D};
 use reference::vector::{LENGTH, MOST};
 use reference::{auc_image, image, triplet};
 use vetrhoss::{AUTS_SIZE, CK_SIZE, IK_SIZE, OPC_SIZE, RAND_SIZE, RES_SIZE, VECTOR_SIZE};
 
-use crate::call::{Call, Function, ALL};
+use crate::call::{Call, Function, Numbers, ALL};
 use crate::compare::Comparison;
 
 /// The buffers for RES, CK, IK and AUTS.
@@ -63,9 +65,13 @@ pub fn random_call(function: Function, random: &mut Random) -> Call {
 fn call(function: Function, number: u64, buffers: Vec<Vec<u8>>) -> Call {
     Call {
         function,
-        number,
+        numbers: [number, 0],
         buffers,
     }
+}
+
+fn any_edition(random: &mut Random) -> &'static Edition {
+    &KNOWN[random.below(KNOWN.len())]
 }
 
 fn one_in(chances: usize, random: &mut Random) -> bool {
@@ -81,13 +87,16 @@ fn key(random: &mut Random) -> Vec<u8> {
     random.bytes::<16>().to_vec()
 }
 
-/// Zero, shorter, longer or any size.
+/// About the sizes of all images.
+const IMAGES: [usize; 10] = [1, 40, 41, 42, 204, 205, 206, 368, 369, 370];
+
+/// Zero, shorter, longer, an image's or any size.
 fn spoil_size(call: &mut Call, random: &mut Random) {
     let place = random.below(call.buffers.len());
     let buffer = &mut call.buffers[place];
     let size = buffer.len();
-    let any = random.below(400);
-    let spoilt = random.one_of(&[0, size.saturating_sub(1), size + 1, 2 * size, any]);
+    let (any, image) = (random.below(400), random.one_of(&IMAGES));
+    let spoilt = random.one_of(&[0, size.saturating_sub(1), size + 1, 2 * size, image, any]);
     let more = filler(spoilt.saturating_sub(size), random);
     buffer.truncate(spoilt);
     buffer.extend(more);
@@ -97,24 +106,36 @@ fn flip_bit(bytes: &mut [u8], random: &mut Random) {
     bytes[random.below(bytes.len())] ^= 1 << random.below(8);
 }
 
-/// Mostly a known set.
-fn set(random: &mut Random) -> u64 {
+/// Mostly the edition and a known set.
+fn numbers(edition: &Edition, random: &mut Random) -> Numbers {
+    let any = random.draw() % 256;
     match random.below(8) {
-        0 => random.draw() % 256,
-        drawn => drawn as u64 % 2,
+        0 => [edition.number.into(), any],
+        1 => [any, any % 3],
+        2 => [any % 4, any % 2],
+        drawn => [edition.number.into(), drawn as u64 % 2],
     }
 }
 
 fn new_usim(random: &mut Random) -> Call {
-    let buffers = vec![key(random), key(random), filler(image::LENGTH, random)];
-    call(Function::NewUsim, set(random), buffers)
+    let edition = any_edition(random);
+    let image = filler(edition.card_image(), random);
+    Call {
+        function: Function::NewUsim,
+        numbers: numbers(edition, random),
+        buffers: vec![key(random), key(random), image],
+    }
 }
 
 fn new_auc(random: &mut Random) -> Call {
+    let edition = any_edition(random);
     let amf = random.bytes::<2>().to_vec();
-    let image = filler(auc_image::LENGTH, random);
-    let buffers = vec![key(random), key(random), amf, image];
-    call(Function::NewAuc, set(random), buffers)
+    let image = filler(edition.auc_image(), random);
+    Call {
+        function: Function::NewAuc,
+        numbers: numbers(edition, random),
+        buffers: vec![key(random), key(random), amf, image],
+    }
 }
 
 fn subscriber(random: &mut Random) -> Subscriber {
@@ -126,53 +147,49 @@ fn subscriber(random: &mut Random) -> Subscriber {
 }
 
 /// A SEQ that is likely to touch an edge of some rule.
-fn any_seq(random: &mut Random) -> u64 {
-    let any = random.draw() % (SEQ_LIMIT + 1);
+fn any_seq(edition: &Edition, random: &mut Random) -> u64 {
+    let limit = edition.seq_limit();
+    let any = random.draw() % (limit + 1);
     let low = random.draw() % 1_000;
-    random.one_of(&[
-        0,
-        1,
-        low,
-        D,
-        D + 1,
-        any,
-        SEQ_LIMIT - D,
-        SEQ_LIMIT - 3,
-        SEQ_LIMIT,
-    ])
+    random.one_of(&[0, 1, low, D, D + 1, any, limit - D, limit - 3, limit])
 }
 
 /// The given SEQ or a neighbour of it.
-fn near(seq: u64, random: &mut Random) -> u64 {
+fn near(seq: u64, edition: &Edition, random: &mut Random) -> u64 {
     let moved = (seq + random.draw() % 5).saturating_sub(2);
-    moved.min(SEQ_LIMIT)
+    moved.min(edition.seq_limit())
 }
 
-/// The edition or the set, which share the first byte of both images.
+/// The edition or the set, which share the first byte of both images: both, or
+/// the edition alone, or the set alone.
 fn spoil_image(image: &mut [u8], random: &mut Random) {
-    image[0] = random.draw().to_le_bytes()[0];
+    let [any, known, ..] = random.draw().to_le_bytes();
+    let (edition, set) = (image[0] & 0xf0, image[0] & 0x0f);
+    image[0] = random.one_of(&[any, 16 * (known % 4) + set, edition + known % 16]);
 }
 
 fn card(random: &mut Random) -> Card {
-    let mut card = Card::new(subscriber(random));
-    let highest = any_seq(random);
-    for place in &mut card.places {
+    let edition = any_edition(random);
+    let mut card = Card::new(edition.number, subscriber(random));
+    let highest = any_seq(edition, random);
+    card.places = edition.places(|_| {
         let below = random.draw() % (highest + 1);
-        *place = random.one_of(&[0, below, highest.saturating_sub(1), highest]);
-    }
+        random.one_of(&[0, below, highest.saturating_sub(1), highest])
+    });
     card
 }
 
 /// An SQN at an edge of the card's freshness.
 fn sqn_for(card: &Card, random: &mut Random) -> u64 {
-    let ind = random.below(PLACES);
+    let edition = card.row();
+    let ind = random.below(edition.indices());
     let centre = random.one_of(&[card.places[ind], card.seq_ms(), card.seq_ms() + D]);
     let seq = if one_in(8, random) {
-        any_seq(random)
+        any_seq(edition, random)
     } else {
-        near(centre, random)
+        near(centre, edition, random)
     };
-    sqn(seq, ind)
+    edition.sqn(seq, ind)
 }
 
 fn challenge(random: &mut Random) -> Call {
@@ -188,7 +205,7 @@ fn challenge(random: &mut Random) -> Call {
     if one_in(8, random) {
         spoil_image(&mut image, random);
     }
-    let mut buffers = vec![image.to_vec(), rand.to_vec(), autn.to_vec()];
+    let mut buffers = vec![image, rand.to_vec(), autn.to_vec()];
     buffers.extend(ANSWER_SIZES.map(|size| filler(size, random)));
     call(Function::Challenge, 0, buffers)
 }
@@ -219,11 +236,12 @@ pub fn rands(n: usize, random: &mut Random) -> Vec<u8> {
 }
 
 fn centre(random: &mut Random) -> Auc {
-    let seq_he = any_seq(random);
+    let edition = any_edition(random);
+    let seq_he = any_seq(edition, random);
     Auc {
-        seq_he: near(seq_he, random),
-        next: random.below(PLACES) as u8,
-        ..Auc::new(subscriber(random), random.bytes())
+        seq_he: near(seq_he, edition, random),
+        next: random.below(edition.indices()) as u8,
+        ..Auc::new(edition.number, subscriber(random), random.bytes())
     }
 }
 
@@ -232,7 +250,7 @@ fn centre_image(auc: &Auc, random: &mut Random) -> Vec<u8> {
     if one_in(8, random) {
         spoil_image(&mut image, random);
     }
-    image.to_vec()
+    image
 }
 
 fn order(random: &mut Random) -> Call {
@@ -244,17 +262,24 @@ fn order(random: &mut Random) -> Call {
 
 /// A SEQ_MS at an edge of the range, or one whose batch would pass the limit.
 fn seq_ms_for(auc: &Auc, n: usize, random: &mut Random) -> u64 {
+    let edition = auc.row();
     let lowest_in_range = (auc.seq_he + n as u64).saturating_sub(D);
-    let any = any_seq(random);
-    let edge = random.one_of(&[auc.seq_he, lowest_in_range, any, SEQ_LIMIT]);
-    near(edge, random)
+    let any = any_seq(edition, random);
+    let edge = random.one_of(&[auc.seq_he, lowest_in_range, any, edition.seq_limit()]);
+    near(edge, edition, random)
 }
 
 /// The AUTS of a card whose highest place is the given SEQ: SEQ 0 is fresh to none.
-fn auts(subscriber: &Subscriber, seq_ms: u64, rand: &Block, random: &mut Random) -> [u8; 14] {
-    let mut card = Card::new(subscriber.clone());
-    card.places[random.below(PLACES)] = seq_ms;
-    let autn = subscriber.autn(rand, &sqn_bytes(0), &random.bytes());
+/// Now and then the card is of another edition, and has that SQN_MS.
+fn auts(auc: &Auc, seq_ms: u64, rand: &Block, random: &mut Random) -> [u8; 14] {
+    let sqn_ms = auc.row().sqn(seq_ms, random.below(auc.row().indices()));
+    let edition = match random.below(8) {
+        0 => any_edition(random),
+        _ => auc.row(),
+    };
+    let mut card = Card::new(edition.number, auc.subscriber.clone());
+    card.places[edition.ind(sqn_ms)] = edition.seq(sqn_ms);
+    let autn = auc.subscriber.autn(rand, &sqn_bytes(0), &random.bytes());
     card.challenge(rand, &autn.expect("a known set")).auts
 }
 
@@ -263,7 +288,7 @@ fn resynchronise(random: &mut Random) -> Call {
     let (count, n) = count(random);
     let rand = random.bytes();
     let seq_ms = seq_ms_for(&auc, n, random);
-    let mut auts = auts(&auc.subscriber, seq_ms, &rand, random);
+    let mut auts = auts(&auc, seq_ms, &rand, random);
     if one_in(3, random) {
         flip_bit(&mut auts, random);
     }
@@ -289,7 +314,8 @@ fn vector_at(random: &mut Random) -> Call {
 /// What a new centre of either set gives. Random RANDs are unlike.
 fn ordered(n: usize, random: &mut Random) -> Vec<u8> {
     let mut batch = filler(LENGTH * n, random);
-    let auc = Auc::new(subscriber(random), random.bytes());
+    let edition = any_edition(random);
+    let auc = Auc::new(edition.number, subscriber(random), random.bytes());
     auc.order(n as u64, &filler(RAND_SIZE * n, random), &mut batch)
         .expect("a batch");
     batch

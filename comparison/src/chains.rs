@@ -1,20 +1,20 @@
-//! A card and a centre used on through many calls, their images carried from
-//! one to the next: vectors arrive in order, out of order, twice or never, and
-//! the centre sometimes falls back to an old copy of its image.
+//! A card and a centre of one edition used on through many calls, their images
+//! carried from one to the next: vectors arrive in order, out of order, twice or
+//! never, and the centre sometimes falls back to an old copy of its image.
 
-use reference::auc_image::{self, LENGTH as CENTRE};
-use reference::image::LENGTH as CARD;
+use reference::auc_image;
+use reference::editions::{Edition, KNOWN};
 use reference::random::Random;
 use reference::triplet;
-use reference::usim::{D, SEQ_LIMIT};
+use reference::usim::D;
 use reference::vector::{Bytes, Vector, LENGTH, MOST};
 use vetrhoss::{AMF_SIZE, DONE, K_SIZE, OPC_SIZE, OP_SIZE, RAND_SIZE, SYNCH_FAILURE};
 
-use crate::call::{Call, Function};
+use crate::call::{Call, Function, Numbers};
 use crate::cases::{filler, ANSWER_SIZES};
 use crate::compare::{Comparison, Outcome};
 
-const CHAINS: usize = 150;
+const CHAINS: usize = 200;
 const STEPS: usize = 40;
 
 /// A vector, and what the card answered to it.
@@ -33,8 +33,9 @@ struct Chain<'a, 'b> {
 }
 
 pub fn compare(comparison: &mut Comparison, random: &mut Random) -> Result<(), String> {
-    for _ in 0..CHAINS {
-        let mut chain = Chain::start(comparison, random)?;
+    for turn in 0..CHAINS {
+        let edition = &KNOWN[turn % KNOWN.len()];
+        let mut chain = Chain::start(edition, comparison, random)?;
         for _ in 0..STEPS {
             chain.step()?;
         }
@@ -44,6 +45,7 @@ pub fn compare(comparison: &mut Comparison, random: &mut Random) -> Result<(), S
 
 impl<'a, 'b> Chain<'a, 'b> {
     fn start(
+        edition: &Edition,
         comparison: &'a mut Comparison<'b>,
         random: &'a mut Random,
     ) -> Result<Chain<'a, 'b>, String> {
@@ -56,15 +58,17 @@ impl<'a, 'b> Chain<'a, 'b> {
             held: Vec::new(),
             used: Vec::new(),
         };
-        let set = chain.random.draw() % 2;
+        let numbers = [edition.number.into(), chain.random.draw() % 2];
         let [k, op, opc] = [K_SIZE, OP_SIZE, OPC_SIZE].map(|size| filler(size, chain.random));
-        let opc = last(chain.call(Function::Opc, 0, vec![k.clone(), op, opc])?);
+        let opc = last(chain.call(Function::Opc, [0; 2], vec![k.clone(), op, opc])?);
         let amf = filler(AMF_SIZE, chain.random);
         let keys = vec![k, opc];
-        let card = [keys.clone(), vec![filler(CARD, chain.random)]].concat();
-        let centre = [keys, vec![amf, filler(CENTRE, chain.random)]].concat();
-        chain.card = last(chain.call(Function::NewUsim, set, card)?);
-        chain.centre = last(chain.call(Function::NewAuc, set, centre)?);
+        let card = filler(edition.card_image(), chain.random);
+        let centre = filler(edition.auc_image(), chain.random);
+        let card = [keys.clone(), vec![card]].concat();
+        let centre = [keys, vec![amf, centre]].concat();
+        chain.card = last(chain.call(Function::NewUsim, numbers, card)?);
+        chain.centre = last(chain.call(Function::NewAuc, numbers, centre)?);
         chain.copy.clone_from(&chain.centre);
         Ok(chain)
     }
@@ -72,12 +76,12 @@ impl<'a, 'b> Chain<'a, 'b> {
     fn call(
         &mut self,
         function: Function,
-        number: u64,
+        numbers: Numbers,
         buffers: Vec<Vec<u8>>,
     ) -> Result<Outcome, String> {
         let call = Call {
             function,
-            number,
+            numbers,
             buffers,
         };
         self.comparison.call(&call)
@@ -87,8 +91,12 @@ impl<'a, 'b> Chain<'a, 'b> {
         match self.random.below(16) {
             0..=3 => self.order(),
             4..=8 => self.use_vector(0),
-            9..=10 => {
+            9 => {
                 let place = self.random.below(MOST);
+                self.use_vector(place)
+            }
+            10 => {
+                let place = self.random.below(1 + self.held.len());
                 self.use_vector(place)
             }
             11..=12 => self.use_again(),
@@ -122,7 +130,7 @@ impl<'a, 'b> Chain<'a, 'b> {
         self.triplets(&batch)?;
         let mut vectors = Vec::new();
         for k in 0..batch.len() / LENGTH {
-            let found = self.call(Function::VectorAt, k as u64, vec![batch.clone()])?;
+            let found = self.call(Function::VectorAt, [k as u64, 0], vec![batch.clone()])?;
             let from = found.answer.value as usize;
             let bytes: &Bytes = batch[from..]
                 .first_chunk()
@@ -135,7 +143,7 @@ impl<'a, 'b> Chain<'a, 'b> {
     /// A batch that was given can be converted.
     fn triplets(&mut self, batch: &[u8]) -> Result<(), String> {
         let lent = filler(triplet::LENGTH * (batch.len() / LENGTH), self.random);
-        let outcome = self.call(Function::Triplets, 0, vec![batch.to_vec(), lent])?;
+        let outcome = self.call(Function::Triplets, [0; 2], vec![batch.to_vec(), lent])?;
         match outcome.answer.number {
             DONE => Ok(()),
             _ => Err(format!("no triplets but {:?}", outcome.answer)),
@@ -145,7 +153,7 @@ impl<'a, 'b> Chain<'a, 'b> {
     fn order(&mut self) -> Result<(), String> {
         let (count, [rands, batch]) = self.lent();
         let buffers = vec![self.centre.clone(), rands, batch];
-        let outcome = self.call(Function::Order, count, buffers)?;
+        let outcome = self.call(Function::Order, [count, 0], buffers)?;
         let vectors = self.given(outcome)?;
         self.held.extend(vectors);
         Ok(())
@@ -184,7 +192,7 @@ impl<'a, 'b> Chain<'a, 'b> {
         let (rand, autn) = (vector.rand.to_vec(), vector.autn.to_vec());
         let mut buffers = vec![self.card.clone(), rand, autn];
         buffers.extend(ANSWER_SIZES.map(|size| filler(size, self.random)));
-        let Outcome { answer, buffers } = self.call(Function::Challenge, 0, buffers)?;
+        let Outcome { answer, buffers } = self.call(Function::Challenge, [0; 2], buffers)?;
         self.card.clone_from(&buffers[0]);
         let (keys, auts) = (buffers[3..6].concat(), &buffers[6]);
         let expected = [&vector.xres[..], &vector.ck, &vector.ik].concat();
@@ -200,7 +208,7 @@ impl<'a, 'b> Chain<'a, 'b> {
         let (count, [rands, batch]) = self.lent();
         let rand = vector.rand.to_vec();
         let buffers = vec![self.centre.clone(), rand, auts, rands, batch];
-        let outcome = self.call(Function::Resynchronise, count, buffers)?;
+        let outcome = self.call(Function::Resynchronise, [count, 0], buffers)?;
         self.held.clear();
         for vector in self.given(outcome)? {
             if self.random.below(4) == 0 {
@@ -218,11 +226,11 @@ impl<'a, 'b> Chain<'a, 'b> {
     /// near; the image as it was is the next copy.
     fn jump(&mut self) -> Result<(), String> {
         let mut auc = auc_image::read(&self.centre).map_err(|refusal| format!("{refusal:?}"))?;
-        if auc.seq_he < SEQ_LIMIT - 3 * D {
+        if auc.seq_he < auc.row().seq_limit() - 3 * D {
             auc.seq_he += D - 10 + self.random.draw() % D;
         }
         let image = auc_image::image(&auc).map_err(|refusal| format!("{refusal:?}"))?;
-        self.copy = std::mem::replace(&mut self.centre, image.to_vec());
+        self.copy = std::mem::replace(&mut self.centre, image);
         Ok(())
     }
 }

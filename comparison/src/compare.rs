@@ -34,7 +34,7 @@ impl Comparison<'_> {
         let expected = expected(call);
         let mut arena = Arena::new(&call.buffers, &mut self.random);
         let should = arena.holding(&expected.buffers);
-        let answer = (self.library)(call.function, call.number, arena.lend());
+        let answer = (self.library)(call.function, call.numbers, arena.lend());
         if answer != expected.answer {
             let both = format!("{answer:?} and not {:?}", expected.answer);
             return Err(told(call, &both));
@@ -42,7 +42,7 @@ impl Comparison<'_> {
         if let Some(place) = arena.difference(&should) {
             return Err(told(call, &format!("{answer:?}, and {place} is wrong")));
         }
-        self.tally.count(call.function, answer);
+        self.tally.count(call, answer);
         Ok(expected)
     }
 }
@@ -51,7 +51,7 @@ impl Comparison<'_> {
 fn expected(call: &Call) -> Outcome {
     let mut buffers = call.buffers.clone();
     let lent = buffers.iter_mut().map(|buffer| &mut buffer[..]).collect();
-    let answer = second::answer(call.function, call.number, lent);
+    let answer = second::answer(call.function, call.numbers, lent);
     if is_refusal(answer) {
         buffers.clone_from(&call.buffers);
     }
@@ -64,9 +64,9 @@ fn told(call: &Call, what: &str) -> String {
         .map(|hex| String::from_utf8_lossy(&hex).into_owned())
         .collect();
     format!(
-        "{:?}, number {}: {what}; lent were\n{}",
+        "{:?}, numbers {:?}: {what}; lent were\n{}",
         call.function,
-        call.number,
+        call.numbers,
         buffers.join("\n")
     )
 }

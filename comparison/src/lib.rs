@@ -6,6 +6,7 @@ pub mod call;
 pub mod cases;
 pub mod chains;
 pub mod compare;
+pub mod images;
 pub mod library;
 pub mod published;
 pub mod second;

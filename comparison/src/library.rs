@@ -2,9 +2,10 @@
 
 use vetrhoss::{AnswerBuffers, Error, Failure, SeqHe, KEPT, RESET};
 
-use crate::call::{named, Answer, Function};
+use crate::call::{named, Answer, Function, Numbers};
 
-pub fn answer(function: Function, number: u64, lent: Vec<&mut [u8]>) -> Answer {
+pub fn answer(function: Function, numbers: Numbers, lent: Vec<&mut [u8]>) -> Answer {
+    let [number, set] = numbers;
     let done = match function {
         Function::Opc => {
             let [k, op, opc] = named(lent);
@@ -12,11 +13,11 @@ pub fn answer(function: Function, number: u64, lent: Vec<&mut [u8]>) -> Answer {
         }
         Function::NewUsim => {
             let [k, opc, image] = named(lent);
-            vetrhoss::new_usim(number as u8, k, opc, image).map(|()| 0)
+            vetrhoss::new_usim(number as u8, set as u8, k, opc, image).map(|()| 0)
         }
         Function::NewAuc => {
             let [k, opc, amf, image] = named(lent);
-            vetrhoss::new_auc(number as u8, k, opc, amf, image).map(|()| 0)
+            vetrhoss::new_auc(number as u8, set as u8, k, opc, amf, image).map(|()| 0)
         }
         Function::Challenge => {
             let [image, rand, autn, res, ck, ik, auts] = named(lent);

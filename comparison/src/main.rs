@@ -4,7 +4,7 @@
 use std::process::ExitCode;
 
 use comparison::compare::Comparison;
-use comparison::{cases, chains, library, published, sizes};
+use comparison::{cases, chains, images, library, published, sizes};
 use reference::random::Random;
 
 const SEED: u64 = 33_102;
@@ -27,6 +27,7 @@ fn compare() -> Result<usize, String> {
     let random = &mut Random::new(SEED);
     let mut total = part("published sets", random, published::compare)?;
     total += part("wrong sizes", random, sizes::compare)?;
+    total += part("images of every edition", random, images::compare)?;
     total += part("chains", random, chains::compare)?;
     total += part("random calls", random, cases::compare)?;
     Ok(total)

@@ -4,11 +4,12 @@
 use reference::auc::Auc;
 use reference::auc_image;
 use reference::block::xor;
+use reference::editions::{Edition, KNOWN};
 use reference::functions::Subscriber;
 use reference::published::{self, MilenageVector};
 use reference::random::Random;
 use reference::text::read_hex;
-use reference::usim::{ind, seq, sqn_of_bytes};
+use reference::usim::sqn_of_bytes;
 use reference::vector::LENGTH;
 use vetrhoss::TRIPLET_SIZE;
 
@@ -22,7 +23,9 @@ fn hex<const N: usize>(digits: &str) -> [u8; N] {
 pub fn compare(comparison: &mut Comparison, _: &mut Random) -> Result<(), String> {
     for set in published::milenage() {
         opc(comparison, &set)?;
-        vector(comparison, &set)?;
+        for edition in &KNOWN {
+            vector(comparison, edition, &set)?;
+        }
         triplet(comparison, &set)?;
     }
     Ok(())
@@ -44,14 +47,18 @@ fn opc(comparison: &mut Comparison, set: &MilenageVector) -> Result<(), String> 
     let (k, op) = (hex::<16>(set.k), hex::<16>(set.op));
     let call = Call {
         function: Function::Opc,
-        number: 0,
+        numbers: [0; 2],
         buffers: vec![k.to_vec(), op.to_vec(), vec![0; 16]],
     };
     gives(comparison, &call, &hex::<16>(set.opc))
 }
 
-/// A centre that stands just before the published SQN.
-fn vector(comparison: &mut Comparison, set: &MilenageVector) -> Result<(), String> {
+/// A centre of this edition that stands just before the published SQN.
+fn vector(
+    comparison: &mut Comparison,
+    edition: &Edition,
+    set: &MilenageVector,
+) -> Result<(), String> {
     let sqn = sqn_of_bytes(&hex(set.sqn));
     let subscriber = Subscriber {
         set: 1,
@@ -59,19 +66,15 @@ fn vector(comparison: &mut Comparison, set: &MilenageVector) -> Result<(), Strin
         opc: hex(set.opc),
     };
     let auc = Auc {
-        seq_he: seq(sqn) - 1,
-        next: ind(sqn) as u8,
-        ..Auc::new(subscriber, hex(set.amf))
+        seq_he: edition.seq(sqn) - 1,
+        next: edition.ind(sqn) as u8,
+        ..Auc::new(edition.number, subscriber, hex(set.amf))
     };
     let image = auc_image::image(&auc).map_err(|refusal| format!("{refusal:?}"))?;
     let call = Call {
         function: Function::Order,
-        number: 1,
-        buffers: vec![
-            image.to_vec(),
-            hex::<16>(set.rand).to_vec(),
-            vec![0; LENGTH],
-        ],
+        numbers: [1, 0],
+        buffers: vec![image, hex::<16>(set.rand).to_vec(), vec![0; LENGTH]],
     };
     gives(comparison, &call, &published_vector(set))
 }
@@ -92,7 +95,7 @@ fn published_vector(set: &MilenageVector) -> Vec<u8> {
 fn triplet(comparison: &mut Comparison, set: &MilenageVector) -> Result<(), String> {
     let call = Call {
         function: Function::Triplets,
-        number: 0,
+        numbers: [0; 2],
         buffers: vec![published_vector(set), vec![0; TRIPLET_SIZE]],
     };
     gives(comparison, &call, &published_triplet(set))

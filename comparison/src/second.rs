@@ -7,13 +7,14 @@ use reference::vector::handed_back;
 use reference::{auc_image, image, milenage, triplet};
 use vetrhoss::{KEPT, MAC_FAILURE, RESET, SYNCH_FAILURE};
 
-use crate::call::{named, Answer, Function};
+use crate::call::{named, Answer, Function, Numbers};
 
-pub fn answer(function: Function, number: u64, lent: Vec<&mut [u8]>) -> Answer {
+pub fn answer(function: Function, numbers: Numbers, lent: Vec<&mut [u8]>) -> Answer {
+    let [number, _] = numbers;
     let answered = match function {
         Function::Opc => opc(named(lent)),
-        Function::NewUsim => new_usim(number, named(lent)),
-        Function::NewAuc => new_auc(number, named(lent)),
+        Function::NewUsim => new_usim(numbers, named(lent)),
+        Function::NewAuc => new_auc(numbers, named(lent)),
         Function::Challenge => challenge(named(lent)),
         Function::Order => order(number, named(lent)),
         Function::Resynchronise => resynchronise(number, named(lent)),
@@ -52,25 +53,26 @@ fn opc([k, op, opc]: [&mut [u8]; 3]) -> Result<Answer, Refused> {
     Ok(Answer::done(0))
 }
 
-/// The set is judged before any size.
-fn subscriber(set: u64, k: &[u8], opc: &[u8]) -> Result<Subscriber, Refusal> {
-    let set = match set {
-        0 => 0,
-        1 => 1,
-        _ => return Err(BAD_RECORD),
-    };
-    let (k, opc) = (sized(k)?, sized(opc)?);
-    Ok(Subscriber { set, k, opc })
+/// Edition and set are judged before any size.
+fn new_card([edition, set]: Numbers, k: &[u8], opc: &[u8]) -> Result<Card, Refusal> {
+    let (edition, set) = (edition as u8, set as u8);
+    let keys = |k, opc| Subscriber { set, k, opc };
+    if !Card::new(edition, keys([0; 16], [0; 16])).is_valid() {
+        return Err(BAD_RECORD);
+    }
+    Ok(Card::new(edition, keys(sized(k)?, sized(opc)?)))
 }
 
-fn new_usim(set: u64, [k, opc, image]: [&mut [u8]; 3]) -> Result<Answer, Refused> {
-    image::write(&Card::new(subscriber(set, k, opc)?), image)?;
+fn new_usim(numbers: Numbers, [k, opc, image]: [&mut [u8]; 3]) -> Result<Answer, Refused> {
+    image::write(&new_card(numbers, k, opc)?, image)?;
     Ok(Answer::done(0))
 }
 
-fn new_auc(set: u64, [k, opc, amf, image]: [&mut [u8]; 4]) -> Result<Answer, Refused> {
-    let subscriber = subscriber(set, k, opc)?;
-    auc_image::write(&Auc::new(subscriber, sized(amf)?), image)?;
+/// A centre has the edition and the keys of its card.
+fn new_auc(numbers: Numbers, [k, opc, amf, image]: [&mut [u8]; 4]) -> Result<Answer, Refused> {
+    let card = new_card(numbers, k, opc)?;
+    let auc = Auc::new(card.edition, card.subscriber, sized(amf)?);
+    auc_image::write(&auc, image)?;
     Ok(Answer::done(0))
 }
 

@@ -56,6 +56,10 @@ fn each_size(
     for size in (0..=3 * right + 2).filter(|&size| size != right) {
         let mut call = good.clone();
         call.buffers[place] = filler(size, random);
+        // An image keeps its edition.
+        if let Some(first) = call.buffers[place].first_mut() {
+            *first = good.buffers[place][0];
+        }
         let answer = comparison.call(&call)?.answer;
         let batch_of_another_size = good.function == Function::VectorAt && size % VECTOR_SIZE == 0;
         if !is_refusal(answer) && !batch_of_another_size {
@@ -74,7 +78,7 @@ fn triplets_of_each_batch(comparison: &mut Comparison, random: &mut Random) -> R
         for lent in FOR_TRIPLETS {
             let call = Call {
                 function: Function::Triplets,
-                number: 0,
+                numbers: [0; 2],
                 buffers: vec![filler(batch, random), filler(lent, random)],
             };
             let taken = !is_refusal(comparison.call(&call)?.answer);

@@ -4,7 +4,7 @@
 use comparison::call::{is_refusal, Answer, Function};
 use comparison::compare::Comparison;
 use comparison::tally::Tally;
-use comparison::{cases, chains, second, sizes};
+use comparison::{cases, chains, images, second, sizes};
 use reference::random::Random;
 use vetrhoss::{BAD_SIZE, DONE, LARGEST_BATCH, MAC_FAILURE, SYNCH_FAILURE};
 use vetrhoss::{SRES_OFFSET, SRES_SIZE, TRIPLET_SIZE, VECTOR_SIZE, XRES_OFFSET};
@@ -15,9 +15,9 @@ type Fault = fn(Function, &mut Answer, &mut [&mut [u8]]);
 type Part = fn(&mut Comparison, &mut Random) -> Result<(), String>;
 
 fn compare(part: Part, fault: Fault) -> Result<(), String> {
-    let library = move |function, number, mut lent: Vec<&mut [u8]>| {
+    let library = move |function, numbers, mut lent: Vec<&mut [u8]>| {
         let again = lent.iter_mut().map(|buffer| &mut buffer[..]).collect();
-        let mut answer = second::answer(function, number, again);
+        let mut answer = second::answer(function, numbers, again);
         fault(function, &mut answer, &mut lent);
         answer
     };
@@ -31,7 +31,12 @@ fn is_noticed(fault: Fault) -> bool {
 
 #[test]
 fn without_a_fault_all_agree() {
-    let parts: [Part; 3] = [cases::compare, chains::compare, sizes::compare];
+    let parts: [Part; 4] = [
+        cases::compare,
+        chains::compare,
+        sizes::compare,
+        images::compare,
+    ];
     for part in parts {
         assert_eq!(compare(part, |_, _, _| ()), Ok(()));
     }
@@ -155,6 +160,40 @@ fn triplets_of_a_vector_too_many() {
         }
     };
     assert!(compare(sizes::compare, fault).is_err());
+}
+
+/// Edition 2 counts its indices by vectors, not by batches.
+#[test]
+fn an_index_for_a_batch() {
+    let fault: Fault = |function, answer, lent| {
+        if function == Function::Order && answer.number == DONE && lent[0][0] >> 4 == 2 {
+            let n = (lent[2].len() / VECTOR_SIZE) as u8;
+            let (seq, next) = (lent[0][40] & 0xc0, lent[0][40] & 0x3f);
+            lent[0][40] = seq + (next.wrapping_sub(n - 1) & 0x3f);
+        }
+    };
+    for part in [cases::compare as Part, chains::compare] {
+        assert!(compare(part, fault).is_err());
+    }
+}
+
+/// Place 63 of an edition 2 card lies in the last octets of its image.
+#[test]
+fn the_last_place_of_a_card() {
+    assert!(is_noticed(|function, answer, lent| {
+        if function == Function::Challenge && answer.number == DONE && lent[0].len() == 369 {
+            lent[0][368] ^= 1;
+        }
+    }));
+}
+
+#[test]
+fn a_new_card_of_another_edition() {
+    assert!(is_noticed(|function, answer, lent| {
+        if function == Function::NewUsim && answer.number == DONE {
+            lent[2][0] ^= 0x30;
+        }
+    }));
 }
 
 #[test]

@@ -1,6 +1,6 @@
 /*
- * A card is issued, challenged, brought out of step and resynchronised; the vectors are made triplets too. Build and run, from the
- * repository's root:
+ * A card of edition 2 is issued, challenged, brought out of step and resynchronised; a vector comes late, and the vectors are made
+ * triplets too. Build and run, from the repository's root:
  *
  *     rt staticlib vetrhoss
  *     cc -std=c99 -Iinclude -o target/example examples/c/example.c target/staticlib/libvetrhoss.a && target/example
@@ -86,7 +86,7 @@ static const uint8_t *vector_at(const uint8_t *batch, size_t batch_size, uint64_
 static struct answer challenge(uint8_t *card, const uint8_t *vector)
 {
     struct answer answer;
-    answer.result = vetrhoss_challenge(card, VETRHOSS_USIM_IMAGE_SIZE, vector + VETRHOSS_RAND_OFFSET, VETRHOSS_RAND_SIZE,
+    answer.result = vetrhoss_challenge(card, VETRHOSS_USIM_IMAGE_SIZE_2, vector + VETRHOSS_RAND_OFFSET, VETRHOSS_RAND_SIZE,
                                        vector + VETRHOSS_AUTN_OFFSET, VETRHOSS_AUTN_SIZE, answer.res, sizeof answer.res, answer.ck,
                                        sizeof answer.ck, answer.ik, sizeof answer.ik, answer.auts, sizeof answer.auts);
     return answer;
@@ -124,9 +124,11 @@ static void issue(uint8_t *card, uint8_t *centre)
     expect_number(vetrhoss_opc(k, sizeof k, op, sizeof op, opc, sizeof opc), VETRHOSS_DONE, "OPc");
     expect(same(opc, published_opc, sizeof opc), "OPc is the published one");
     show("OPc ", opc, sizeof opc);
-    uint64_t result = vetrhoss_new_usim(VETRHOSS_MILENAGE, k, sizeof k, opc, sizeof opc, card, VETRHOSS_USIM_IMAGE_SIZE);
+    uint64_t result = vetrhoss_new_usim(VETRHOSS_EDITION_2, VETRHOSS_MILENAGE, k, sizeof k, opc, sizeof opc, card,
+                                        VETRHOSS_USIM_IMAGE_SIZE_2);
     expect_number(result, VETRHOSS_DONE, "the card");
-    result = vetrhoss_new_auc(VETRHOSS_MILENAGE, k, sizeof k, opc, sizeof opc, amf, sizeof amf, centre, VETRHOSS_AUC_IMAGE_SIZE);
+    result = vetrhoss_new_auc(VETRHOSS_EDITION_2, VETRHOSS_MILENAGE, k, sizeof k, opc, sizeof opc, amf, sizeof amf, centre,
+                              VETRHOSS_AUC_IMAGE_SIZE_2);
     expect_number(result, VETRHOSS_DONE, "the centre's record");
 }
 
@@ -135,16 +137,16 @@ static void resynchronise(uint8_t *centre, const uint8_t *failed, const uint8_t 
 {
     uint8_t rand[VETRHOSS_RAND_SIZE];
     make_rands(rand, 1, VECTORS);
-    uint64_t result = vetrhoss_resynchronise(centre, VETRHOSS_AUC_IMAGE_SIZE, 1, failed + VETRHOSS_RAND_OFFSET, VETRHOSS_RAND_SIZE, auts,
-                                             VETRHOSS_AUTS_SIZE, rand, sizeof rand, fresh, VETRHOSS_VECTOR_SIZE);
+    uint64_t result = vetrhoss_resynchronise(centre, VETRHOSS_AUC_IMAGE_SIZE_2, 1, failed + VETRHOSS_RAND_OFFSET, VETRHOSS_RAND_SIZE,
+                                             auts, VETRHOSS_AUTS_SIZE, rand, sizeof rand, fresh, VETRHOSS_VECTOR_SIZE);
     expect_number(result, VETRHOSS_DONE, "the resynchronisation");
     printf("%s\n", VETRHOSS_VALUE(result) == VETRHOSS_KEPT ? "SEQ_HE was kept" : "SEQ_HE was reset");
 }
 
 int main(void)
 {
-    uint8_t card[VETRHOSS_USIM_IMAGE_SIZE];
-    uint8_t centre[VETRHOSS_AUC_IMAGE_SIZE];
+    uint8_t card[VETRHOSS_USIM_IMAGE_SIZE_2];
+    uint8_t centre[VETRHOSS_AUC_IMAGE_SIZE_2];
     uint8_t rands[VECTORS * VETRHOSS_RAND_SIZE];
     uint8_t batch[VECTORS * VETRHOSS_VECTOR_SIZE];
     uint8_t fresh[VETRHOSS_VECTOR_SIZE];
@@ -165,8 +167,11 @@ int main(void)
     expect(same(first + VETRHOSS_XRES_OFFSET, published_res, sizeof published_res), "XRES is the published one");
     accepted_challenge(card, first);
 
-    printf("three vectors are lost and the last is used\n");
+    printf("three vectors are passed over and the last is used\n");
     accepted_challenge(card, vector_at(batch, sizeof batch, 4));
+
+    printf("the second comes late\n");
+    accepted_challenge(card, vector_at(batch, sizeof batch, 1));
 
     printf("the first challenge comes once more\n");
     struct answer failure = challenge(card, first);

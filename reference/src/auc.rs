@@ -1,11 +1,9 @@
 //! The centre: its record, its batches and its resynchronisation.
 
 use crate::block::{xor, Block};
+use crate::editions::{self, Edition};
 use crate::functions::{Outputs, Subscriber};
-use crate::usim::{
-    seq, sqn, sqn_bytes, sqn_of_bytes, Refusal, AMF_OF_AUTS, BAD_LENGTH, BAD_RECORD, D, PLACES,
-    SEQ_LIMIT,
-};
+use crate::usim::{sqn_bytes, sqn_of_bytes, Refusal, AMF_OF_AUTS, BAD_LENGTH, BAD_RECORD, D};
 use crate::vector::{Vector, LENGTH, MOST};
 
 pub const BAD_COUNT: Refusal = Refusal(2);
@@ -17,10 +15,11 @@ const DEFAULT: usize = 5;
 
 #[derive(Clone, Debug, PartialEq, Eq)]
 pub struct Auc {
+    pub edition: u8,
     pub subscriber: Subscriber,
     pub amf: [u8; 2],
     pub seq_he: u64,
-    /// The index of the next batch.
+    /// The index with which the next batch begins.
     pub next: u8,
 }
 
@@ -56,8 +55,9 @@ pub enum Start {
 
 impl Auc {
     /// SEQ_HE and the next index of a new record are 0.
-    pub fn new(subscriber: Subscriber, amf: [u8; 2]) -> Auc {
+    pub fn new(edition: u8, subscriber: Subscriber, amf: [u8; 2]) -> Auc {
         Auc {
+            edition,
             subscriber,
             amf,
             seq_he: 0,
@@ -66,7 +66,17 @@ impl Auc {
     }
 
     pub fn is_valid(&self) -> bool {
-        self.subscriber.set <= 1 && self.seq_he <= SEQ_LIMIT && usize::from(self.next) < PLACES
+        let Some(edition) = editions::of(self.edition) else {
+            return false;
+        };
+        self.subscriber.set <= 1
+            && self.seq_he <= edition.seq_limit()
+            && usize::from(self.next) < edition.indices()
+    }
+
+    /// The row of a valid record.
+    pub fn row(&self) -> &'static Edition {
+        editions::of(self.edition).expect("a valid record has a known edition")
     }
 
     /// Fills the lent batch and gives the next record. A refusal changes
@@ -114,10 +124,11 @@ impl Auc {
         let ak_s = self.outputs(rand, 0, &AMF_OF_AUTS).ak_s;
         let concealed: [u8; 6] = concealed.try_into().expect("six bytes");
         let sqn_ms = sqn_of_bytes(&xor(&concealed, &ak_s));
-        if self.is_in_range(seq(sqn_ms), n) {
+        let seq_ms = self.row().seq(sqn_ms);
+        if self.is_in_range(seq_ms, n) {
             Ok((Start::Kept, self.seq_he))
         } else if self.outputs(rand, sqn_ms, &AMF_OF_AUTS).mac_s == mac_s {
-            Ok((Start::Reset, seq(sqn_ms)))
+            Ok((Start::Reset, seq_ms))
         } else {
             Err(BAD_MAC_S)
         }
@@ -129,23 +140,23 @@ impl Auc {
     }
 
     fn give(&self, start: u64, rands: &[Block], batch: &mut [u8]) -> Result<Auc, Refused> {
-        let seq_he = start + rands.len() as u64;
-        if seq_he > SEQ_LIMIT {
+        let (edition, n) = (self.row(), rands.len());
+        let seq_he = start + n as u64;
+        if seq_he > edition.seq_limit() {
             return Err(PAST_THE_LIMIT.into());
         }
-        let numbers = start + 1..;
-        for ((place, rand), seq) in batch.chunks_mut(LENGTH).zip(rands).zip(numbers) {
-            place.copy_from_slice(&self.vector(rand, seq).bytes());
+        for (k, (place, rand)) in batch.chunks_mut(LENGTH).zip(rands).enumerate() {
+            let sqn = edition.sqn(start + 1 + k as u64, edition.index(self.next, k));
+            place.copy_from_slice(&self.vector(rand, sqn).bytes());
         }
         Ok(Auc {
             seq_he,
-            next: (self.next + 1) % PLACES as u8,
+            next: edition.next_index(self.next, n),
             ..self.clone()
         })
     }
 
-    fn vector(&self, rand: &Block, seq: u64) -> Vector {
-        let sqn = sqn(seq, self.next.into());
+    fn vector(&self, rand: &Block, sqn: u64) -> Vector {
         let outputs = self.outputs(rand, sqn, &self.amf);
         let autn = self.subscriber.autn(rand, &sqn_bytes(sqn), &self.amf);
         Vector {

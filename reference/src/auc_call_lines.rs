@@ -2,20 +2,22 @@
 //! centre is lent.
 
 use crate::auc::Auc;
-use crate::auc_image::{self, LENGTH};
+use crate::auc_image;
 use crate::block::Block;
 use crate::call_lines::{autn, new_card};
+use crate::editions::Edition;
 use crate::functions::Subscriber;
 use crate::random::Random;
 use crate::text::{write_bytes, write_hex, write_number};
-use crate::usim::{sqn, Card};
+use crate::usim::Card;
 use crate::vector;
 
 /// The places of the fields in an `auc-write`, the word being the first.
-pub const SET: usize = 1;
-pub const BUFFER: usize = 5;
-pub const SEQ_HE: usize = 6;
-pub const NEXT: usize = 7;
+pub const EDITION: usize = 1;
+pub const SET: usize = 2;
+pub const BUFFER: usize = 6;
+pub const SEQ_HE: usize = 7;
+pub const NEXT: usize = 8;
 
 /// What a line lends for a batch. Edges exchange some of it.
 #[derive(Clone)]
@@ -31,7 +33,7 @@ impl Lent {
     pub fn new(auc: &Auc, count: usize, random: &mut Random) -> Lent {
         let n = if count == 0 { 5 } else { count };
         Lent {
-            image: image_of(auc).to_vec(),
+            image: image_of(auc),
             count: count as u64,
             rands: rands(n, random),
             length: vector::LENGTH * n,
@@ -74,19 +76,20 @@ pub fn rands(n: usize, random: &mut Random) -> Vec<u8> {
     rands
 }
 
-pub fn image_of(auc: &Auc) -> [u8; LENGTH] {
+pub fn image_of(auc: &Auc) -> Vec<u8> {
     auc_image::image(auc).expect("a valid record")
 }
 
-pub fn new_auc(set: u8, random: &mut Random) -> Auc {
-    Auc::new(new_card(set, random).subscriber, random.bytes())
+pub fn new_auc(edition: &Edition, set: u8, random: &mut Random) -> Auc {
+    let subscriber = new_card(edition, set, random).subscriber;
+    Auc::new(edition.number, subscriber, random.bytes())
 }
 
-pub fn auc_with(set: u8, seq_he: u64, next: u8, random: &mut Random) -> Auc {
+pub fn auc_with(edition: &Edition, set: u8, seq_he: u64, next: u8, random: &mut Random) -> Auc {
     Auc {
         seq_he,
         next,
-        ..new_auc(set, random)
+        ..new_auc(edition, set, random)
     }
 }
 
@@ -99,11 +102,19 @@ pub fn batch_of(auc: &Auc, rands: &[u8]) -> Vec<u8> {
     batch
 }
 
-/// The AUTS with which a card of this SQN_MS answers a stale challenge.
-pub fn auts(subscriber: &Subscriber, rand: &Block, seq_ms: u64, ind: usize) -> [u8; 14] {
-    let mut card = Card::new(subscriber.clone());
+/// The AUTS with which a card of this edition and SQN_MS answers a stale
+/// challenge.
+pub fn auts(
+    edition: &Edition,
+    subscriber: &Subscriber,
+    rand: &Block,
+    seq_ms: u64,
+    ind: usize,
+) -> [u8; 14] {
+    let mut card = Card::new(edition.number, subscriber.clone());
     card.places[ind] = seq_ms;
-    let stale = autn(&card, rand, sqn(0, 0), &[0, 0]);
+    // SQN 0 is SEQ 0, whatever the edition is.
+    let stale = autn(&card, rand, 0, &[0, 0]);
     card.challenge(rand, &stale).auts
 }
 
@@ -115,6 +126,7 @@ pub fn auc_read(image: &[u8]) -> Vec<u8> {
 pub fn write_fields(auc: &Auc, length: usize) -> Vec<Vec<u8>> {
     vec![
         b"auc-write".to_vec(),
+        write_number(auc.edition.into()),
         write_number(auc.subscriber.set.into()),
         write_hex(&auc.subscriber.k),
         write_hex(&auc.subscriber.opc),
@@ -132,6 +144,7 @@ pub fn auc_write(auc: &Auc, length: usize) -> Vec<u8> {
 pub fn auc_new(auc: &Auc) -> Vec<u8> {
     let fields = [
         b"auc-new".to_vec(),
+        write_number(auc.edition.into()),
         write_number(auc.subscriber.set.into()),
         write_hex(&auc.subscriber.k),
         write_hex(&auc.subscriber.opc),
@@ -140,12 +153,13 @@ pub fn auc_new(auc: &Auc) -> Vec<u8> {
     fields.join(&b' ')
 }
 
-pub fn card_new(subscriber: &Subscriber) -> Vec<u8> {
+pub fn card_new(card: &Card) -> Vec<u8> {
     let fields = [
         b"card-new".to_vec(),
-        write_number(subscriber.set.into()),
-        write_hex(&subscriber.k),
-        write_hex(&subscriber.opc),
+        write_number(card.edition.into()),
+        write_number(card.subscriber.set.into()),
+        write_hex(&card.subscriber.k),
+        write_hex(&card.subscriber.opc),
     ];
     fields.join(&b' ')
 }

@@ -10,10 +10,10 @@ use crate::vector::{handed_back, LENGTH};
 /// None where the line is none of these words or of another form.
 pub fn call(fields: &[&[u8]]) -> Option<Vec<u8>> {
     let printed = match *fields {
-        [b"auc-new", set, k, opc, amf] => auc_new(&read_new([set, k, opc], amf)?),
+        [b"auc-new", edition, set, k, opc, amf] => auc_new(&read_new(edition, [set, k, opc], amf)?),
         [b"auc-read", image] => auc_read(&read_bytes(image)?),
-        [b"auc-write", set, k, opc, amf, length, seq_he, next] => auc_write(
-            &read_auc([set, k, opc], amf, [seq_he, next])?,
+        [b"auc-write", edition, set, k, opc, amf, length, seq_he, next] => auc_write(
+            &read_auc(edition, [set, k, opc], amf, [seq_he, next])?,
             read_length(length)?,
         ),
         [b"order", image, count, rands, length] => {
@@ -56,6 +56,7 @@ fn auc_read(image: &[u8]) -> Result<Vec<u8>, Refused> {
     let auc = auc_image::read(image)?;
     let fields = [
         b"auc".to_vec(),
+        write_number(auc.edition.into()),
         write_number(auc.subscriber.set.into()),
         write_hex(&auc.subscriber.k),
         write_hex(&auc.subscriber.opc),
@@ -99,15 +100,21 @@ fn triplets(batch: &[u8], length: usize) -> Result<Vec<u8>, Refused> {
     Ok([b"triplets ", &write_hex(&triplets)[..]].concat())
 }
 
-fn read_new(keys: [&[u8]; 3], amf: &[u8]) -> Option<Auc> {
-    Some(Auc::new(read_subscriber(keys)?, read_hex(amf)?))
+fn read_new(edition: &[u8], keys: [&[u8]; 3], amf: &[u8]) -> Option<Auc> {
+    let edition = read_small(edition)?;
+    Some(Auc::new(edition, read_subscriber(keys)?, read_hex(amf)?))
 }
 
-fn read_auc(keys: [&[u8]; 3], amf: &[u8], [seq_he, next]: [&[u8]; 2]) -> Option<Auc> {
+fn read_auc(
+    edition: &[u8],
+    keys: [&[u8]; 3],
+    amf: &[u8],
+    [seq_he, next]: [&[u8]; 2],
+) -> Option<Auc> {
     Some(Auc {
         seq_he: read_number(seq_he)?,
         next: read_small(next)?,
-        ..read_new(keys, amf)?
+        ..read_new(edition, keys, amf)?
     })
 }
 

@@ -1,13 +1,15 @@
-//! The lines that try each edge of the form of the centre's words.
+//! The lines that try each edge of the form of the centre's words, with records
+//! of edition 1.
 
 use crate::auc_call_lines::{
     auc_new, auc_read, auc_with, auc_write, auts, card_new, image_of, new_auc, vector_line, Lent,
 };
-use crate::auc_image::LENGTH;
 use crate::calls::LONGEST;
 use crate::damage;
+use crate::editions::EDITION_1;
 use crate::form_lines::NO_NUMBERS;
 use crate::random::Random;
+use crate::usim::Card;
 use crate::vector;
 
 /// Short lines. Most are bad lines; the others are refused for their lengths.
@@ -72,14 +74,14 @@ pub fn edges(random: &mut Random) -> Vec<Vec<u8>> {
 
 /// A good line of each word.
 fn one_of_each(random: &mut Random) -> Vec<Vec<u8>> {
-    let auc = auc_with(random.one_of(&[0, 1]), 500, 3, random);
+    let auc = auc_with(&EDITION_1, random.one_of(&[0, 1]), 500, 3, random);
     let rand = random.bytes();
-    let auts = auts(&auc.subscriber, &rand, 490, 2);
+    let auts = auts(&EDITION_1, &auc.subscriber, &rand, 490, 2);
     vec![
-        card_new(&auc.subscriber),
+        card_new(&Card::new(auc.edition, auc.subscriber.clone())),
         auc_new(&auc),
         auc_read(&image_of(&auc)),
-        auc_write(&auc, LENGTH),
+        auc_write(&auc, EDITION_1.auc_image()),
         Lent::new(&auc, 1, random).order(),
         Lent::new(&auc, 2, random).resync(&rand, &auts),
         vector_line(&[0xa5; vector::LENGTH], "0"),
@@ -137,7 +139,7 @@ fn each_damage(random: &mut Random) -> Vec<Vec<u8>> {
 
 /// Every part of an `order` from its start.
 fn beginnings(random: &mut Random) -> Vec<Vec<u8>> {
-    let line = Lent::new(&new_auc(1, random), 1, random).order();
+    let line = Lent::new(&new_auc(&EDITION_1, 1, random), 1, random).order();
     (1..line.len())
         .map(|length| line[..length].to_vec())
         .collect()
@@ -146,7 +148,7 @@ fn beginnings(random: &mut Random) -> Vec<Vec<u8>> {
 /// Lines about the greatest length, of a right form otherwise.
 fn long_lines(random: &mut Random) -> Vec<Vec<u8>> {
     let mut lines = Vec::new();
-    let mut lent = Lent::new(&new_auc(0, random), 1, random);
+    let mut lent = Lent::new(&new_auc(&EDITION_1, 0, random), 1, random);
     let order = lent.order().len() - 2 * lent.rands.len();
     let vector = vector_line(&[0], "00").len() - 2;
     for length in [LONGEST - 2, LONGEST, LONGEST + 2] {

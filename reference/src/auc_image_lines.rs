@@ -6,15 +6,14 @@ use crate::auc_call_lines::{
     auc_new, auc_read, auc_with, auc_write, card_new, image_of, new_auc, vector_line, write_fields,
     BUFFER, NEXT, SEQ_HE, SET,
 };
-use crate::auc_image::LENGTH;
 use crate::call_lines::{new_card, turn_a_bit};
+use crate::editions::Edition;
 use crate::image_lines::NUMBERS;
 use crate::random::Random;
-use crate::usim::{PLACES, SEQ_LIMIT};
 
 /// Sets and indices, also past what a line may name, where the low bits are in
 /// range.
-const SMALL: [&str; 17] = [
+const SMALL: [&str; 19] = [
     "0",
     "1",
     "2",
@@ -25,6 +24,8 @@ const SMALL: [&str; 17] = [
     "32",
     "33",
     "63",
+    "64",
+    "65",
     "255",
     "256",
     "257",
@@ -70,52 +71,55 @@ const BATCH_PLACES: [&str; 14] = [
     "18446744073709551616",
 ];
 
-pub fn edges(random: &mut Random) -> Vec<Vec<u8>> {
+pub fn edges(edition: &Edition, random: &mut Random) -> Vec<Vec<u8>> {
     let mut lines = Vec::new();
-    lines.extend(new_records(random));
-    lines.extend(round_trips(random));
-    lines.extend(number_edges(random));
-    lines.extend(two_faults(random));
-    lines.extend(first_bytes(random));
-    lines.extend(whole_images());
-    lines.extend(image_lengths(random));
-    lines.extend(damaged_images(random));
-    lines.extend(vectors(random));
+    lines.extend(new_records(edition, random));
+    lines.extend(round_trips(edition, random));
+    lines.extend(number_edges(edition, random));
+    lines.extend(two_faults(edition, random));
+    lines.extend(first_bytes(edition, random));
+    lines.extend(whole_images(edition));
+    lines.extend(image_lengths(edition, random));
+    lines.extend(damaged_images(edition, random));
     lines
 }
 
 /// Every set of four bits and some above; the known ones more than once.
-fn new_records(random: &mut Random) -> Vec<Vec<u8>> {
+fn new_records(edition: &Edition, random: &mut Random) -> Vec<Vec<u8>> {
     let mut lines = Vec::new();
     for set in (0..=17).chain([0, 1, 0, 1, 0, 1, 127, 128, 254, 255]) {
-        lines.push(card_new(&new_card(set, random).subscriber));
-        lines.push(auc_new(&new_auc(set, random)));
+        lines.push(card_new(&new_card(edition, set, random)));
+        lines.push(auc_new(&new_auc(edition, set, random)));
     }
     lines
 }
 
 /// A record written, and what was written read.
-fn round_trips(random: &mut Random) -> Vec<Vec<u8>> {
+fn round_trips(edition: &Edition, random: &mut Random) -> Vec<Vec<u8>> {
     let mut records: Vec<Auc> = Vec::new();
-    for bit in 0..43 {
-        records.push(auc_with(bit as u8 % 2, 1 << bit, 0, random));
+    for bit in 0..edition.seq_bits() {
+        records.push(auc_with(edition, bit as u8 % 2, 1 << bit, 0, random));
     }
-    for next in 0..PLACES as u8 {
-        let seq_he = random.one_of(&[0, SEQ_LIMIT]);
-        records.push(auc_with(next % 2, seq_he, next, random));
+    for next in 0..edition.indices() as u8 {
+        let seq_he = random.one_of(&[0, edition.seq_limit()]);
+        records.push(auc_with(edition, next % 2, seq_he, next, random));
     }
     for turn in 0..12 {
-        let seq_he = random.draw() % (SEQ_LIMIT + 1);
-        records.push(auc_with(turn % 2, seq_he, turn, random));
+        let seq_he = random.draw() % (edition.seq_limit() + 1);
+        records.push(auc_with(edition, turn % 2, seq_he, turn, random));
     }
     records
         .iter()
-        .flat_map(|auc| [auc_write(auc, LENGTH), auc_read(&image_of(auc))])
+        .flat_map(|auc| {
+            let image = image_of(auc);
+            [auc_write(auc, image.len()), auc_read(&image)]
+        })
         .collect()
 }
 
-fn number_edges(random: &mut Random) -> Vec<Vec<u8>> {
-    let fields = write_fields(&auc_with(1, 77, 5, random), LENGTH);
+fn number_edges(edition: &Edition, random: &mut Random) -> Vec<Vec<u8>> {
+    let auc = auc_with(edition, 1, 77, 5, random);
+    let fields = write_fields(&auc, edition.auc_image());
     let with = |place: usize, number: &str| {
         let mut fields = fields.clone();
         fields[place] = number.as_bytes().to_vec();
@@ -130,20 +134,27 @@ fn number_edges(random: &mut Random) -> Vec<Vec<u8>> {
 }
 
 /// The lower refusal is given where two apply.
-fn two_faults(random: &mut Random) -> Vec<Vec<u8>> {
+fn two_faults(edition: &Edition, random: &mut Random) -> Vec<Vec<u8>> {
     let mut lines = Vec::new();
-    for length in [0, LENGTH - 1, LENGTH, LENGTH + 1, 205, 512] {
-        lines.push(auc_write(&auc_with(2, 0, 0, random), length));
-        lines.push(auc_write(&auc_with(0, SEQ_LIMIT + 1, 0, random), length));
-        lines.push(auc_write(&auc_with(1, 0, 32, random), length));
-        lines.push(auc_write(&auc_with(3, u64::MAX, 255, random), length));
+    let right = edition.auc_image();
+    let (limit, indices) = (edition.seq_limit(), edition.indices() as u8);
+    for length in [0, right - 1, right, right + 1, 205, 512] {
+        for (set, seq_he, next) in [
+            (2, 0, 0),
+            (0, limit + 1, 0),
+            (1, 0, indices),
+            (3, u64::MAX, 255),
+        ] {
+            let auc = auc_with(edition, set, seq_he, next, random);
+            lines.push(auc_write(&auc, length));
+        }
     }
     lines
 }
 
 /// Every first byte: an edition and a set.
-fn first_bytes(random: &mut Random) -> Vec<Vec<u8>> {
-    let mut image = image_of(&auc_with(1, 12_345, 6, random));
+fn first_bytes(edition: &Edition, random: &mut Random) -> Vec<Vec<u8>> {
+    let mut image = image_of(&auc_with(edition, 1, 12_345, 6, random));
     (0..=255)
         .map(|first| {
             image[0] = first;
@@ -152,19 +163,20 @@ fn first_bytes(random: &mut Random) -> Vec<Vec<u8>> {
         .collect()
 }
 
-fn whole_images() -> Vec<Vec<u8>> {
+fn whole_images(edition: &Edition) -> Vec<Vec<u8>> {
+    let first = 16 * edition.number;
     let bytes = [
         (0x00, 0x00),
         (0xff, 0xff),
-        (0x10, 0x00),
-        (0x11, 0x00),
-        (0x10, 0xff),
-        (0x11, 0xff),
-        (0x10, 0xaa),
-        (0x11, 0x55),
+        (first, 0x00),
+        (first + 1, 0x00),
+        (first, 0xff),
+        (first + 1, 0xff),
+        (first, 0xaa),
+        (first + 1, 0x55),
     ];
     let image = |(first, others)| {
-        let mut image = [others; LENGTH];
+        let mut image = vec![others; edition.auc_image()];
         image[0] = first;
         auc_read(&image)
     };
@@ -172,10 +184,10 @@ fn whole_images() -> Vec<Vec<u8>> {
 }
 
 /// Images of other lengths: good ones cut or with bytes behind, and such with
-/// an unknown edition, which is not looked at.
-fn image_lengths(random: &mut Random) -> Vec<Vec<u8>> {
+/// an unknown edition, which is refused before the length.
+fn image_lengths(edition: &Edition, random: &mut Random) -> Vec<Vec<u8>> {
     let mut lines = Vec::new();
-    let good = image_of(&auc_with(0, 12_345, 6, random)).repeat(6);
+    let good = image_of(&auc_with(edition, 0, 12_345, 6, random)).repeat(6);
     let mut bad = good.clone();
     bad[0] = 0;
     for length in [0, 1, 2, 20, 33, 35, 40, 42, 72, 82, 204, 205, 206] {
@@ -186,10 +198,11 @@ fn image_lengths(random: &mut Random) -> Vec<Vec<u8>> {
 }
 
 /// One bit of a good image turned over.
-fn damaged_images(random: &mut Random) -> Vec<Vec<u8>> {
+fn damaged_images(edition: &Edition, random: &mut Random) -> Vec<Vec<u8>> {
     let mut lines = Vec::new();
     for turn in 0..20 {
-        let auc = auc_with(turn % 2, random.draw() % SEQ_LIMIT, turn, random);
+        let seq_he = random.draw() % edition.seq_limit();
+        let auc = auc_with(edition, turn % 2, seq_he, turn, random);
         let mut image = image_of(&auc);
         turn_a_bit(&mut image, random);
         lines.push(auc_read(&image));
@@ -198,7 +211,7 @@ fn damaged_images(random: &mut Random) -> Vec<Vec<u8>> {
 }
 
 /// Batches of every count and about it, each with every place.
-fn vectors(random: &mut Random) -> Vec<Vec<u8>> {
+pub fn vectors(random: &mut Random) -> Vec<Vec<u8>> {
     let mut lines = Vec::new();
     let bytes: Vec<u8> = (0..720).map(|_| random.draw() as u8).collect();
     for n in 0..=7 {

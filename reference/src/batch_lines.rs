@@ -4,9 +4,10 @@ use crate::auc::Auc;
 use crate::auc_call_lines::{auc_with, auts, image_of, new_auc, rands, Lent};
 use crate::block::Block;
 use crate::call_lines::{self, autn, challenge, turn_a_bit};
+use crate::editions::Edition;
 use crate::functions::Subscriber;
 use crate::random::Random;
-use crate::usim::{sqn, Card, D, PLACES, SEQ_LIMIT};
+use crate::usim::{Card, D};
 use crate::vector::{Vector, LENGTH};
 
 const SETS: [u8; 2] = [0, 1];
@@ -20,12 +21,13 @@ struct Failure {
 }
 
 impl Failure {
-    fn new(set: u8, seq_he: u64, seq_ms: u64, random: &mut Random) -> Failure {
-        let auc = auc_with(set, seq_he, random.below(PLACES) as u8, random);
+    fn new(edition: &Edition, set: u8, seq_he: u64, seq_ms: u64, random: &mut Random) -> Failure {
+        let next = random.below(edition.indices()) as u8;
+        let auc = auc_with(edition, set, seq_he, next, random);
         let rand = random.bytes();
-        let ind = random.below(PLACES);
+        let ind = random.below(edition.indices());
         Failure {
-            auts: auts(&auc.subscriber, &rand, seq_ms, ind),
+            auts: auts(edition, &auc.subscriber, &rand, seq_ms, ind),
             auc,
             rand,
         }
@@ -45,53 +47,83 @@ impl Failure {
 
 /// The sample run's order, and document 01's limits and kept or reset cases for
 /// each set.
-pub fn published(random: &mut Random) -> Vec<Vec<u8>> {
+pub fn published(edition: &Edition, random: &mut Random) -> Vec<Vec<u8>> {
     let sample = Subscriber {
         set: 0,
         k: std::array::from_fn(|i| i as u8),
         opc: [0; 16],
     };
-    let mut lent = Lent::new(&Auc::new(sample, [0, 1]), 1, random);
+    let mut lent = Lent::new(&Auc::new(edition.number, sample, [0, 1]), 1, random);
     lent.rands = vec![0; 16];
     let mut lines = vec![lent.order()];
     for set in SETS {
-        for seq_he in [8_796_093_022_202, 8_796_093_022_203] {
-            let auc = auc_with(set, seq_he, 0, random);
+        for below in [5, 4] {
+            let seq_he = edition.seq_limit() - below;
+            let auc = auc_with(edition, set, seq_he, 0, random);
             lines.push(Lent::new(&auc, 5, random).order());
         }
         for seq_he in [100, 99, 268_435_551, 268_435_552] {
-            let failure = Failure::new(set, seq_he, 100, random);
+            let failure = Failure::new(edition, set, seq_he, 100, random);
             lines.push(failure.resync(5, random));
         }
     }
     lines
 }
 
-pub fn edges(random: &mut Random) -> Vec<Vec<u8>> {
-    let mut lines = Vec::new();
-    lines.extend(counts(random));
-    lines.extend(indices(random));
-    lines.extend(equal_rands(random));
-    lines.extend(alike_rands(random));
-    lines.extend(limits(random));
-    lines.extend(ranges(random));
-    lines.extend(damaged_auts(random));
-    lines.extend(full_centres(random));
-    lines.extend(high_cards(random));
-    lines.extend(lengths(random));
-    lines.extend(two_faults(random));
-    lines.extend(first_bytes(random));
-    lines.extend(stories(random));
-    lines.extend(mixed(random));
-    lines
+type Section = fn(&Edition, &mut Random) -> Vec<Vec<u8>>;
+
+/// What is tried with centres of edition 1.
+const ALL: [Section; 14] = [
+    counts,
+    indices,
+    equal_rands,
+    alike_rands,
+    limits,
+    ranges,
+    damaged_auts,
+    full_centres,
+    high_cards,
+    lengths,
+    two_faults,
+    first_bytes,
+    stories,
+    mixed,
+];
+
+/// What is tried with centres of the later editions: all that depends on the
+/// edition, and each refusal.
+const SOME: [Section; 11] = [
+    counts,
+    indices,
+    limits,
+    ranges,
+    damaged_auts,
+    full_centres,
+    high_cards,
+    two_faults,
+    first_bytes,
+    stories,
+    mixed,
+];
+
+pub fn edges(edition: &Edition, random: &mut Random) -> Vec<Vec<u8>> {
+    ALL.iter()
+        .flat_map(|section| section(edition, random))
+        .collect()
+}
+
+pub fn later(edition: &Edition, random: &mut Random) -> Vec<Vec<u8>> {
+    SOME.iter()
+        .flat_map(|section| section(edition, random))
+        .collect()
 }
 
 /// Counts 0 to 6 with what is lent for each of 0 to 6 vectors, and huge ones.
-fn counts(random: &mut Random) -> Vec<Vec<u8>> {
+fn counts(edition: &Edition, random: &mut Random) -> Vec<Vec<u8>> {
     let mut lines = Vec::new();
     for count in 0..=6 {
         for n in 0..=6 {
-            let failure = Failure::new((n % 2) as u8, 500, 490, random);
+            let failure = Failure::new(edition, (n % 2) as u8, 500, 490, random);
             let mut lent = Lent::new(&failure.auc, n, random);
             lent.rands = rands(n, random);
             lent.length = LENGTH * n;
@@ -114,7 +146,7 @@ fn counts(random: &mut Random) -> Vec<Vec<u8>> {
         1 << 63,
         u64::MAX,
     ] {
-        let failure = Failure::new(1, 500, 490, random);
+        let failure = Failure::new(edition, 1, 500, 490, random);
         for n in [1, 5] {
             let mut lent = Lent::new(&failure.auc, n, random);
             lent.count = count;
@@ -125,17 +157,23 @@ fn counts(random: &mut Random) -> Vec<Vec<u8>> {
     lines
 }
 
-/// Every next index, after 31 comes 0; a reset goes on with the index too.
-fn indices(random: &mut Random) -> Vec<Vec<u8>> {
+/// Every next index, after the last comes 0; a reset goes on with the index too.
+fn indices(edition: &Edition, random: &mut Random) -> Vec<Vec<u8>> {
     let mut lines = Vec::new();
-    for next in 0..PLACES as u8 {
-        let auc = auc_with(next % 2, random.draw() % SEQ_LIMIT, next, random);
+    for next in 0..edition.indices() as u8 {
+        let auc = auc_with(
+            edition,
+            next % 2,
+            random.draw() % edition.seq_limit(),
+            next,
+            random,
+        );
         lines.push(Lent::new(&auc, 1, random).order());
     }
     for set in SETS {
         for seq_he in [7, 9] {
-            let mut failure = Failure::new(set, seq_he, 8, random);
-            failure.auc.next = 31;
+            let mut failure = Failure::new(edition, set, seq_he, 8, random);
+            failure.auc.next = edition.indices() as u8 - 1;
             lines.push(failure.resync(2, random));
             lines.push(Lent::new(&failure.auc, 5, random).order());
         }
@@ -154,18 +192,18 @@ fn make_equal(rands: &mut [u8], (first, second): (usize, usize)) {
 }
 
 /// Every pair of every batch, and any two pairs of a batch of five at once.
-fn equal_rands(random: &mut Random) -> Vec<Vec<u8>> {
+fn equal_rands(edition: &Edition, random: &mut Random) -> Vec<Vec<u8>> {
     let mut lines = Vec::new();
     for count in [2, 3, 4, 5, 0] {
         for pair in pairs(if count == 0 { 5 } else { count }) {
-            let failure = Failure::new((count % 2) as u8, 500, 490, random);
+            let failure = Failure::new(edition, (count % 2) as u8, 500, 490, random);
             let mut lent = Lent::new(&failure.auc, count, random);
             make_equal(&mut lent.rands, pair);
             lines.push(lent.order());
             lines.push(lent.resync(&failure.rand, &failure.auts));
         }
     }
-    let lent = Lent::new(&new_auc(1, random), 5, random);
+    let lent = Lent::new(&new_auc(edition, 1, random), 5, random);
     for one in pairs(5) {
         for other in pairs(5).into_iter().filter(|other| *other > one) {
             let mut lent = lent.clone();
@@ -182,16 +220,16 @@ fn equal_rands(random: &mut Random) -> Vec<Vec<u8>> {
 
 /// RANDs that differ in one bit only, or that equal the failed challenge's, are
 /// not equal to each other.
-fn alike_rands(random: &mut Random) -> Vec<Vec<u8>> {
+fn alike_rands(edition: &Edition, random: &mut Random) -> Vec<Vec<u8>> {
     let mut lines = Vec::new();
     for byte in 0..16 {
-        let mut lent = Lent::new(&new_auc(byte as u8 % 2, random), 2, random);
+        let mut lent = Lent::new(&new_auc(edition, byte as u8 % 2, random), 2, random);
         make_equal(&mut lent.rands, (0, 1));
         lent.rands[16 + byte] ^= 1 << random.below(8);
         lines.push(lent.order());
     }
     for seq_he in [489, 490] {
-        let failure = Failure::new(1, seq_he, 490, random);
+        let failure = Failure::new(edition, 1, seq_he, 490, random);
         let mut lent = Lent::new(&failure.auc, 3, random);
         lent.rands[16..32].copy_from_slice(&failure.rand);
         lines.push(lent.resync(&failure.rand, &failure.auts));
@@ -200,13 +238,14 @@ fn alike_rands(random: &mut Random) -> Vec<Vec<u8>> {
 }
 
 /// SEQ_HE so high that the last SEQ is about the limit.
-fn limits(random: &mut Random) -> Vec<Vec<u8>> {
+fn limits(edition: &Edition, random: &mut Random) -> Vec<Vec<u8>> {
     let mut lines = Vec::new();
     for count in 0..=5 {
         for below in 0..=6 {
             let set = ((count + below) % 2) as u8;
-            let seq_he = SEQ_LIMIT - below as u64;
-            let auc = auc_with(set, seq_he, random.below(PLACES) as u8, random);
+            let seq_he = edition.seq_limit() - below as u64;
+            let next = random.below(edition.indices()) as u8;
+            let auc = auc_with(edition, set, seq_he, next, random);
             lines.push(Lent::new(&auc, count, random).order());
         }
     }
@@ -214,31 +253,33 @@ fn limits(random: &mut Random) -> Vec<Vec<u8>> {
 }
 
 /// SEQ_HE about SEQ_MS and about SEQ_MS + D, for each count.
-fn ranges(random: &mut Random) -> Vec<Vec<u8>> {
+fn ranges(edition: &Edition, random: &mut Random) -> Vec<Vec<u8>> {
     let mut lines = Vec::new();
-    for (turn, seq_ms) in [0, 1, 100, 1 << 42, SEQ_LIMIT - D].into_iter().enumerate() {
+    let limit = edition.seq_limit();
+    let half = limit / 2 + 1;
+    for (turn, seq_ms) in [0, 1, 100, half, limit - D].into_iter().enumerate() {
         for n in 1..=5 {
             let far = seq_ms + D - n as u64;
             let near = [seq_ms.saturating_sub(1), seq_ms, seq_ms + 1];
             for seq_he in near.into_iter().chain([far - 1, far, far + 1]) {
                 let set = ((turn + n) % 2) as u8;
-                lines.push(Failure::new(set, seq_he, seq_ms, random).resync(n, random));
+                lines.push(Failure::new(edition, set, seq_he, seq_ms, random).resync(n, random));
             }
         }
     }
-    for (seq_he, seq_ms) in [(0, SEQ_LIMIT - 5), (SEQ_LIMIT, 0), (0, D), (0, D + 1)] {
-        lines.push(Failure::new(1, seq_he, seq_ms, random).resync(0, random));
+    for (seq_he, seq_ms) in [(0, limit - 5), (limit, 0), (0, D), (0, D + 1)] {
+        lines.push(Failure::new(edition, 1, seq_he, seq_ms, random).resync(0, random));
     }
     lines
 }
 
 /// Each byte of an AUTS damaged, in range and out of range on both sides. In
 /// range only the damage to SEQ_MS is seen.
-fn damaged_auts(random: &mut Random) -> Vec<Vec<u8>> {
+fn damaged_auts(edition: &Edition, random: &mut Random) -> Vec<Vec<u8>> {
     let mut lines = Vec::new();
     for (turn, seq_he) in [1 << 20, (1 << 20) - 1, 1 << 30].into_iter().enumerate() {
         for set in SETS {
-            let failure = Failure::new(set, seq_he, 1 << 20, random);
+            let failure = Failure::new(edition, set, seq_he, 1 << 20, random);
             for byte in 0..14 {
                 let mut auts = failure.auts;
                 auts[byte] ^= 1 << random.below(8);
@@ -255,19 +296,13 @@ fn damaged_auts(random: &mut Random) -> Vec<Vec<u8>> {
 
 /// SEQ_HE at its limit: in range refused 6 without a look at MAC-S, out of
 /// range no obstacle to a reset.
-fn full_centres(random: &mut Random) -> Vec<Vec<u8>> {
+fn full_centres(edition: &Edition, random: &mut Random) -> Vec<Vec<u8>> {
     let mut lines = Vec::new();
+    let limit = edition.seq_limit();
     for set in SETS {
-        for seq_ms in [
-            0,
-            100,
-            SEQ_LIMIT - D,
-            SEQ_LIMIT - D + 1,
-            SEQ_LIMIT - D + 5,
-            SEQ_LIMIT,
-        ] {
+        for seq_ms in [0, 100, limit - D, limit - D + 1, limit - D + 5, limit] {
             for count in [1, 5] {
-                let failure = Failure::new(set, SEQ_LIMIT, seq_ms, random);
+                let failure = Failure::new(edition, set, limit, seq_ms, random);
                 lines.push(failure.resync(count, random));
                 let failure = failure.with_wrong_code(random);
                 lines.push(failure.resync(count, random));
@@ -278,12 +313,12 @@ fn full_centres(random: &mut Random) -> Vec<Vec<u8>> {
 }
 
 /// SEQ_MS so high that a reset has no room: 5 comes before 6.
-fn high_cards(random: &mut Random) -> Vec<Vec<u8>> {
+fn high_cards(edition: &Edition, random: &mut Random) -> Vec<Vec<u8>> {
     let mut lines = Vec::new();
     for count in 1..=5 {
         for below in [count - 1, count] {
-            let seq_ms = SEQ_LIMIT - below as u64;
-            let failure = Failure::new((count % 2) as u8, 3, seq_ms, random);
+            let seq_ms = edition.seq_limit() - below as u64;
+            let failure = Failure::new(edition, (count % 2) as u8, 3, seq_ms, random);
             lines.push(failure.resync(count, random));
             let failure = failure.with_wrong_code(random);
             lines.push(failure.resync(count, random));
@@ -293,10 +328,10 @@ fn high_cards(random: &mut Random) -> Vec<Vec<u8>> {
 }
 
 /// Each lent part in other lengths.
-fn lengths(random: &mut Random) -> Vec<Vec<u8>> {
+fn lengths(edition: &Edition, random: &mut Random) -> Vec<Vec<u8>> {
     let mut lines = Vec::new();
     for count in [1, 3, 5, 0] {
-        let failure = Failure::new((count % 2) as u8, 500, 490, random);
+        let failure = Failure::new(edition, (count % 2) as u8, 500, 490, random);
         let lent = Lent::new(&failure.auc, count, random);
         let (rand, auts) = (failure.rand.repeat(2), failure.auts.repeat(2));
         let rands = lent.rands.len();
@@ -331,7 +366,7 @@ fn lengths(random: &mut Random) -> Vec<Vec<u8>> {
 }
 
 /// The lower refusal is given where two apply: each fault with each other one.
-fn two_faults(random: &mut Random) -> Vec<Vec<u8>> {
+fn two_faults(edition: &Edition, random: &mut Random) -> Vec<Vec<u8>> {
     type Fault = fn(&mut Lent);
     const FAULTS: [Fault; 6] = [
         |lent| lent.image[0] ^= 0x20,
@@ -342,10 +377,11 @@ fn two_faults(random: &mut Random) -> Vec<Vec<u8>> {
         |lent| make_equal(&mut lent.rands, (0, 1)),
     ];
     let mut lines = Vec::new();
+    let limit = edition.seq_limit();
     for (one, other) in pairs(FAULTS.len()) {
         // Out of range with a wrong code, and past the limit as well.
-        let failure = Failure::new(1, 7, SEQ_LIMIT, random).with_wrong_code(random);
-        let full = auc_with(0, SEQ_LIMIT, 9, random);
+        let failure = Failure::new(edition, 1, 7, limit, random).with_wrong_code(random);
+        let full = auc_with(edition, 0, limit, 9, random);
         let mut lent = Lent::new(&failure.auc, 5, random);
         let mut order = Lent::new(&full, 5, random);
         for fault in [FAULTS[one], FAULTS[other]] {
@@ -356,7 +392,7 @@ fn two_faults(random: &mut Random) -> Vec<Vec<u8>> {
         lines.push(order.order());
     }
     for fault in FAULTS {
-        let failure = Failure::new(0, 7, SEQ_LIMIT, random).with_wrong_code(random);
+        let failure = Failure::new(edition, 0, 7, limit, random).with_wrong_code(random);
         let mut lent = Lent::new(&failure.auc, 5, random);
         fault(&mut lent);
         lines.push(lent.resync(&failure.rand, &failure.auts));
@@ -366,11 +402,11 @@ fn two_faults(random: &mut Random) -> Vec<Vec<u8>> {
 }
 
 /// Images of other editions, sets and lengths, lent to both words.
-fn first_bytes(random: &mut Random) -> Vec<Vec<u8>> {
+fn first_bytes(edition: &Edition, random: &mut Random) -> Vec<Vec<u8>> {
     let mut lines = Vec::new();
-    let failure = Failure::new(1, 7, 7, random);
+    let failure = Failure::new(edition, 1, 7, 7, random);
     let lent = Lent::new(&failure.auc, 2, random);
-    for first in [0x00, 0x01, 0x20, 0x21, 0x12, 0x1f, 0xf0, 0xff] {
+    for first in [0x00, 0x01, 0x30, 0x31, 0x12, 0x1f, 0x22, 0xf0, 0xff] {
         let mut lent = lent.clone();
         lent.image[0] = first;
         lines.push(lent.order());
@@ -387,30 +423,36 @@ fn first_bytes(random: &mut Random) -> Vec<Vec<u8>> {
 
 /// A centre and a card together, out of step and in step again: each call is
 /// lent the record that the one before returned.
-fn stories(random: &mut Random) -> Vec<Vec<u8>> {
+fn stories(edition: &Edition, random: &mut Random) -> Vec<Vec<u8>> {
     let mut lines = Vec::new();
     for set in SETS {
         for (seq_he, seq_ms) in [(40, 5_000), (5_000, 40), (D + 50, 40)] {
-            lines.extend(story(set, seq_he, seq_ms, random));
+            lines.extend(story(edition, set, [seq_he, seq_ms], random));
         }
     }
     lines
 }
 
-fn story(set: u8, seq_he: u64, seq_ms: u64, random: &mut Random) -> Vec<Vec<u8>> {
-    let auc = auc_with(set, seq_he, 31, random);
-    let mut card = Card::new(auc.subscriber.clone());
-    card.places = [seq_ms; PLACES];
+fn story(
+    edition: &Edition,
+    set: u8,
+    [seq_he, seq_ms]: [u64; 2],
+    random: &mut Random,
+) -> Vec<Vec<u8>> {
+    let last = edition.indices() as u8 - 1;
+    let auc = auc_with(edition, set, seq_he, last, random);
+    let mut card = Card::new(edition.number, auc.subscriber.clone());
+    card.places = edition.places(|_| seq_ms);
     let mut lent = Lent::new(&auc, 3, random);
     let mut batch = vec![0; lent.length];
     let next = auc.order(3, &lent.rands, &mut batch).expect("a batch");
     let mut lines = vec![lent.order()];
     lines.extend(challenges(&mut card, &batch));
     let rand: Block = random.bytes();
-    let stale = autn(&card, &rand, sqn(0, 0), &[0, 0]);
+    let stale = autn(&card, &rand, 0, &[0, 0]);
     lines.push(challenge(&call_lines::image_of(&card), &rand, &stale));
     let auts = card.challenge(&rand, &stale).auts;
-    lent.image = image_of(&next).to_vec();
+    lent.image = image_of(&next);
     lent.rands = rands(3, random);
     lines.push(lent.resync(&rand, &auts));
     let resync = next.resync(3, [&rand, &auts], &lent.rands, &mut batch);
@@ -431,15 +473,16 @@ fn challenges(card: &mut Card, batch: &[u8]) -> Vec<Vec<u8>> {
 }
 
 /// Any numbers at all.
-fn mixed(random: &mut Random) -> Vec<Vec<u8>> {
+fn mixed(edition: &Edition, random: &mut Random) -> Vec<Vec<u8>> {
     let mut lines = Vec::new();
+    let limit = edition.seq_limit();
     for turn in 0..120 {
-        let seq_ms = random.draw() % (SEQ_LIMIT + 1);
+        let seq_ms = random.draw() % (limit + 1);
         let seq_he = match random.below(3) {
-            0 => random.draw() % (SEQ_LIMIT + 1),
-            _ => (seq_ms + random.draw() % (D + D / 4)).min(SEQ_LIMIT),
+            0 => random.draw() % (limit + 1),
+            _ => (seq_ms + random.draw() % (D + D / 4)).min(limit),
         };
-        let mut failure = Failure::new(turn % 2, seq_he, seq_ms, random);
+        let mut failure = Failure::new(edition, turn % 2, seq_he, seq_ms, random);
         if random.below(6) == 0 {
             turn_a_bit(&mut failure.auts, random);
         }

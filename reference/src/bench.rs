@@ -1,11 +1,13 @@
-//! The bench: one card, one centre record and one node, a line at a time.
+//! The bench: one card, one centre record and one node, a line at a time. All
+//! its records are of edition 1.
 
 use crate::auc::{Auc, Refused, Start};
 use crate::block::Block;
+use crate::editions::EDITION_1;
 use crate::functions::Subscriber;
 use crate::place::Kind;
 use crate::text::{self, read_hex, read_number, write_hex, BAD_LINE};
-use crate::usim::{ind, seq, sqn_bytes, Card, Refusal, Verdict, BAD_RECORD};
+use crate::usim::{sqn_bytes, Card, Refusal, Verdict, BAD_RECORD};
 use crate::vector::LENGTH;
 use crate::vlr::Node;
 
@@ -84,12 +86,12 @@ impl Bench {
 impl Desk {
     /// Everything is new.
     fn new(subscriber: Subscriber, amf: [u8; 2]) -> Result<Desk, Trouble> {
-        let auc = Auc::new(subscriber.clone(), amf);
+        let auc = Auc::new(EDITION_1.number, subscriber.clone(), amf);
         if !auc.is_valid() {
             return Err(BAD_RECORD.into());
         }
         Ok(Desk {
-            card: Card::new(subscriber),
+            card: Card::new(EDITION_1.number, subscriber),
             auc,
             node: Node::new(),
             failure: None,
@@ -156,7 +158,8 @@ impl Desk {
     fn show(&self) -> String {
         let Auc { seq_he, next, .. } = self.auc;
         let sqn_ms = self.card.sqn_ms();
-        let (seq_ms, index) = (seq(sqn_ms), ind(sqn_ms));
+        let row = self.card.row();
+        let (seq_ms, index) = (row.seq(sqn_ms), row.ind(sqn_ms));
         format!("auc {seq_he} {next} card {seq_ms} {index}")
     }
 }

@@ -2,17 +2,14 @@
 //! with the edition, the set, K and OPc.
 
 use crate::block::Block;
+use crate::editions::{self, Edition};
 use crate::functions::Subscriber;
 use crate::usim::{Refusal, BAD_LENGTH, BAD_RECORD};
-
-const EDITION_1: u64 = 1;
 
 /// The widths of the fields.
 const EDITION: usize = 4;
 const SET: usize = 4;
 pub const BYTE: usize = 8;
-pub const SEQ: usize = 43;
-pub const INDEX: usize = 5;
 
 /// The bits of an image as far as it is written.
 pub struct Writer {
@@ -20,9 +17,9 @@ pub struct Writer {
 }
 
 impl Writer {
-    pub fn new(subscriber: &Subscriber) -> Writer {
+    pub fn new(edition: &Edition, subscriber: &Subscriber) -> Writer {
         let mut writer = Writer { bits: Vec::new() };
-        writer.push(EDITION_1, EDITION);
+        writer.push(edition.number.into(), EDITION);
         writer.push(subscriber.set.into(), SET);
         writer.push_bytes(&subscriber.k);
         writer.push_bytes(&subscriber.opc);
@@ -39,14 +36,18 @@ impl Writer {
         }
     }
 
+    pub fn bytes(&self) -> Vec<u8> {
+        let bytes = self.bits.chunks(BYTE);
+        bytes.map(|eight| number(eight) as u8).collect()
+    }
+
     /// A buffer of another length stays as it was.
     pub fn copy_to(&self, buffer: &mut [u8]) -> Result<(), Refusal> {
-        if BYTE * buffer.len() != self.bits.len() {
+        let bytes = self.bytes();
+        if buffer.len() != bytes.len() {
             return Err(BAD_LENGTH);
         }
-        for (byte, eight) in buffer.iter_mut().zip(self.bits.chunks(BYTE)) {
-            *byte = number(eight) as u8;
-        }
+        buffer.copy_from_slice(&bytes);
         Ok(())
     }
 }
@@ -58,7 +59,24 @@ pub struct Reader {
 }
 
 impl Reader {
-    pub fn new(bytes: &[u8]) -> Reader {
+    /// An image without bytes is refused first, then an unknown edition,
+    /// whatever the length is, and then another length than the edition's.
+    pub fn open(
+        image: &[u8],
+        length: fn(&Edition) -> usize,
+    ) -> Result<(&'static Edition, Reader), Refusal> {
+        if image.is_empty() {
+            return Err(BAD_LENGTH);
+        }
+        let mut bits = Reader::new(image);
+        let edition = editions::of(bits.take(EDITION) as u8).ok_or(BAD_RECORD)?;
+        match image.len() == length(edition) {
+            true => Ok((edition, bits)),
+            false => Err(BAD_LENGTH),
+        }
+    }
+
+    fn new(bytes: &[u8]) -> Reader {
         let mut bits = Vec::new();
         for byte in bytes {
             push(&mut bits, u64::from(*byte), BYTE);
@@ -76,16 +94,13 @@ impl Reader {
         self.take(BYTE) as u8
     }
 
-    /// Only edition 1 is known. The set is for the record to judge.
-    pub fn take_subscriber(&mut self) -> Result<Subscriber, Refusal> {
-        if self.take(EDITION) != EDITION_1 {
-            return Err(BAD_RECORD);
-        }
-        Ok(Subscriber {
+    /// The set is for the record to judge.
+    pub fn take_subscriber(&mut self) -> Subscriber {
+        Subscriber {
             set: self.take(SET) as u8,
             k: self.take_block(),
             opc: self.take_block(),
-        })
+        }
     }
 
     fn take_block(&mut self) -> Block {

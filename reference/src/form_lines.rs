@@ -1,14 +1,17 @@
-//! The lines for `calls` that try each edge of a line's form.
+//! The lines for `calls` that try each edge of a line's form, with cards of
+//! edition 1.
 
 use crate::call_lines::{
     card_read, card_write, challenge, good, image_of, new_card, random_card, write_fields, BUFFER,
-    FIRST_PLACE, K, OPC, SET,
+    EDITION, FIRST_PLACE, K, OPC, SET,
 };
 use crate::calls::LONGEST;
 use crate::damage::{self, STRANGE};
-use crate::image::LENGTH;
+use crate::editions::EDITION_1;
 use crate::random::Random;
 use crate::usim::PLACES;
+
+const IMAGE: usize = EDITION_1.card_image();
 
 /// Short lines. Most are bad lines; the others are refused for their lengths.
 const SHORT: [&[u8]; 64] = [
@@ -105,13 +108,15 @@ fn every_byte() -> Vec<Vec<u8>> {
         .collect()
 }
 
-/// Every strange byte as a digit of a set, a buffer's length or a place.
+/// Every strange byte as a digit of an edition, a set, a buffer's length or a
+/// place.
 fn strange_numbers(random: &mut Random) -> Vec<Vec<u8>> {
     let mut lines = Vec::new();
-    let fields = write_fields(&new_card(0, random), LENGTH);
+    let fields = write_fields(&new_card(&EDITION_1, 0, random), IMAGE);
     for (turn, &byte) in STRANGE.iter().enumerate() {
         let mut fields = fields.clone();
-        fields[[SET, BUFFER, FIRST_PLACE + turn % PLACES][turn % 3]] = vec![b'1', byte];
+        let places = [SET, BUFFER, FIRST_PLACE + turn % PLACES, EDITION];
+        fields[places[turn % 4]] = vec![b'1', byte];
         lines.push(fields.join(&b' '));
     }
     lines
@@ -119,9 +124,9 @@ fn strange_numbers(random: &mut Random) -> Vec<Vec<u8>> {
 
 fn no_numbers(random: &mut Random) -> Vec<Vec<u8>> {
     let mut lines = Vec::new();
-    let fields = write_fields(&new_card(1, random), LENGTH);
+    let fields = write_fields(&new_card(&EDITION_1, 1, random), IMAGE);
     for (turn, text) in NO_NUMBERS.iter().enumerate() {
-        for place in [SET, BUFFER, FIRST_PLACE + 2 * turn] {
+        for place in [EDITION, SET, BUFFER, FIRST_PLACE + 4 * turn] {
             let mut fields = fields.clone();
             fields[place] = text.as_bytes().to_vec();
             lines.push(fields.join(&b' '));
@@ -136,14 +141,14 @@ fn keys(random: &mut Random) -> Vec<Vec<u8>> {
     let mut lines = Vec::new();
     for place in [K, OPC] {
         for digits in [0, 1, 2, 30, 31, 33, 34, 64] {
-            let mut fields = write_fields(&new_card(0, random), LENGTH);
+            let mut fields = write_fields(&new_card(&EDITION_1, 0, random), IMAGE);
             fields[place] = match digits {
                 0 => b"-".to_vec(),
                 _ => random.digits(digits),
             };
             lines.push(fields.join(&b' '));
         }
-        let mut fields = write_fields(&new_card(0, random), LENGTH);
+        let mut fields = write_fields(&new_card(&EDITION_1, 0, random), IMAGE);
         fields[place] = random.digits(34);
         fields[K + OPC - place] = random.digits(30);
         lines.push(fields.join(&b' '));
@@ -153,16 +158,16 @@ fn keys(random: &mut Random) -> Vec<Vec<u8>> {
 
 /// A `card-write` with other counts of places.
 fn field_counts(random: &mut Random) -> Vec<Vec<u8>> {
-    let fields = write_fields(&new_card(1, random), LENGTH);
+    let fields = write_fields(&new_card(&EDITION_1, 1, random), IMAGE);
     let longer = [&fields[..], &fields[FIRST_PLACE..]].concat();
-    [0, 1, 16, 31, 32, 33, 64]
+    [0, 1, 16, 31, 32, 33, 63, 64, 65, 128]
         .map(|places| longer[..FIRST_PLACE + places].join(&b' '))
         .to_vec()
 }
 
 /// Every part of a `card-write` from its start.
 fn beginnings(random: &mut Random) -> Vec<Vec<u8>> {
-    let mut line = card_write(&new_card(0, random), LENGTH);
+    let mut line = card_write(&new_card(&EDITION_1, 0, random), IMAGE);
     line.extend(b"12");
     (1..=line.len())
         .map(|length| line[..length].to_vec())
@@ -173,11 +178,11 @@ fn beginnings(random: &mut Random) -> Vec<Vec<u8>> {
 fn each_damage(random: &mut Random) -> Vec<Vec<u8>> {
     let mut lines = Vec::new();
     for damage in damage::ALL {
-        let card = random_card(1, random);
+        let card = random_card(&EDITION_1, 1, random);
         for mut line in [
             good(random),
             card_read(&image_of(&card)),
-            card_write(&new_card(0, random), LENGTH),
+            card_write(&new_card(&EDITION_1, 0, random), IMAGE),
         ] {
             damage(&mut line, random);
             lines.push(line);
@@ -203,7 +208,7 @@ fn empty_fields(random: &mut Random) -> Vec<Vec<u8>> {
 /// whose rest after a number of bytes looks good.
 fn long_lines(random: &mut Random) -> Vec<Vec<u8>> {
     let mut lines = Vec::new();
-    let image = image_of(&random_card(0, random));
+    let image = image_of(&random_card(&EDITION_1, 0, random));
     for length in [LONGEST - 1, LONGEST, LONGEST + 1] {
         // A RAND of no bytes makes the line's length odd.
         let rand: &[u8] = if length % 2 == 1 { &[] } else { &[0; 16] };

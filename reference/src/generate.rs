@@ -4,9 +4,10 @@
 use std::collections::VecDeque;
 
 use crate::damage::{self, places, STRANGE};
+use crate::editions::EDITION_1;
 use crate::random::Random;
 use crate::{aes_vectors, bench, calls, function_vectors, published};
-use crate::{auc_form_lines, auc_image_lines, batch_lines, bench_lines, node_lines};
+use crate::{auc_form_lines, auc_image_lines, batch_lines, bench_lines, edition_lines, node_lines};
 use crate::{call_lines, challenge_lines, form_lines, handset_lines, image_lines, triplet_lines};
 
 /// The size of the pieces in which a program may read its input. Lines are
@@ -63,8 +64,8 @@ const CALLS: Shape = Shape {
     good: call_lines::good,
     well_formed: call_lines::well_formed,
     edges: |_, random| {
-        let mut lines = challenge_lines::edges(random);
-        lines.extend(image_lines::edges(random));
+        let mut lines = challenge_lines::edges(&EDITION_1, random);
+        lines.extend(image_lines::edges(&EDITION_1, random));
         lines.extend(form_lines::edges(random));
         lines
     },
@@ -160,7 +161,7 @@ fn input(shape: &Shape, published: Vec<String>) -> Vec<u8> {
 fn calls_input(node_lines: NodeLines) -> Vec<u8> {
     let length = CALLS.length;
     let mut input = Input::new(&CALLS);
-    for line in challenge_lines::published() {
+    for line in challenge_lines::published(&EDITION_1) {
         input.push(&line);
     }
     // A good line with the boundary within a field.
@@ -181,17 +182,19 @@ fn calls_input(node_lines: NodeLines) -> Vec<u8> {
         input.due.extend(node_lines::lines());
     }
     input.due.extend(handset_lines::lines());
+    input.due.extend(edition_lines::lines());
     input.finish()
 }
 
 /// The lines for the centre, which come after those for the card. They have
-/// random numbers of their own, and so have those for triplets, the node and the
-/// handset.
+/// random numbers of their own, and so have those for triplets, the node, the
+/// handset and the editions.
 fn centre_lines() -> Vec<Vec<u8>> {
     let mut random = Random::new(33_103);
-    let mut lines = batch_lines::published(&mut random);
-    lines.extend(batch_lines::edges(&mut random));
-    lines.extend(auc_image_lines::edges(&mut random));
+    let mut lines = batch_lines::published(&EDITION_1, &mut random);
+    lines.extend(batch_lines::edges(&EDITION_1, &mut random));
+    lines.extend(auc_image_lines::edges(&EDITION_1, &mut random));
+    lines.extend(auc_image_lines::vectors(&mut random));
     lines.extend(auc_form_lines::edges(&mut random));
     lines.extend(triplet_lines::lines());
     lines

@@ -4,9 +4,9 @@ use crate::auc_form_lines::other_fields;
 use crate::calls::LONGEST;
 use crate::challenge_lines::SETS;
 use crate::damage::{self, STRANGE};
+use crate::editions::EDITION_1;
 use crate::handset::{Store, ANSWER, STORED};
 use crate::handset_lines::{clear_line, Lent, Story};
-use crate::image;
 use crate::random::Random;
 
 /// Short lines. Most are bad lines; the others are refused for their lengths.
@@ -93,7 +93,7 @@ pub fn edges(random: &mut Random) -> Vec<Vec<u8>> {
 
 /// A repeat, and the clear of the same store.
 fn one_of_each(set: u8, random: &mut Random) -> (Vec<u8>, Vec<u8>) {
-    let (mut story, held) = Story::holding(set, random);
+    let (mut story, held) = Story::holding(&EDITION_1, set, random);
     let lent = story.lent(&held);
     (lent.line(), clear_line(&lent.store))
 }
@@ -132,7 +132,7 @@ fn each_damage(random: &mut Random) -> Vec<Vec<u8>> {
 /// Lines about the greatest length, of a right form otherwise. Where RAND and
 /// AUTN are missing the answer is longer than its line.
 fn long_lines(random: &mut Random) -> Vec<Vec<u8>> {
-    let (mut story, held) = Story::holding(0, random);
+    let (mut story, held) = Story::holding(&EDITION_1, 0, random);
     let lent = story.lent(&held);
     let with = |stored: usize, fresh: usize| Lent {
         store: Store {
@@ -145,7 +145,7 @@ fn long_lines(random: &mut Random) -> Vec<Vec<u8>> {
         ..lent.clone()
     };
     // What is left to the store and the fresh answer together.
-    let room = (LONGEST - "phone 1   - - ".len()) / 2 - image::LENGTH;
+    let room = (LONGEST - "phone 1   - - ".len()) / 2 - EDITION_1.card_image();
     let mut lines: Vec<Vec<u8>> = [
         (room - ANSWER, ANSWER),
         (room - ANSWER + 1, ANSWER),

@@ -1,14 +1,15 @@
-//! The lines for the handset. They come last of all.
+//! The lines for the handset.
 
 use crate::block::Block;
 use crate::call_lines::{autn, image_of, new_card, random_card, random_sqn, turn_a_bit};
 use crate::challenge_lines::{sample_subscriber, SETS};
+use crate::editions::{Edition, EDITION_1};
 use crate::handset::{Answer, Store, ANSWER, AUTN, RAND, STORED};
 use crate::handset_calls::write_store;
 use crate::handset_form_lines;
 use crate::random::Random;
 use crate::text::{read_hex, write_bytes};
-use crate::usim::{sqn, Card, PLACES, SEQ_LIMIT};
+use crate::usim::Card;
 
 const VOICE: usize = 0;
 const DATA: usize = 1;
@@ -103,8 +104,12 @@ impl Story<'_> {
     }
 
     /// With a challenge that was accepted for voice and is held there.
-    pub fn holding(set: u8, random: &mut Random) -> (Story<'_>, Challenge) {
-        let mut story = Story::of(random_card(set, random), random);
+    pub fn holding<'a>(
+        edition: &Edition,
+        set: u8,
+        random: &'a mut Random,
+    ) -> (Story<'a>, Challenge) {
+        let mut story = Story::of(random_card(edition, set, random), random);
         let held = story.fresh();
         story.give(&held);
         (story, held)
@@ -113,7 +118,7 @@ impl Story<'_> {
     pub fn lent(&mut self, challenge: &Challenge) -> Lent {
         Lent {
             store: self.stores[self.domain].clone(),
-            image: image_of(&self.card).to_vec(),
+            image: image_of(&self.card),
             rand: challenge.rand.to_vec(),
             autn: challenge.autn.to_vec(),
             fresh: self.random.bytes::<ANSWER>().to_vec(),
@@ -160,8 +165,9 @@ impl Story<'_> {
 
     /// One that the card accepts when it is asked.
     fn fresh_for(&mut self, rand: Block) -> Challenge {
-        let ind = self.random.below(PLACES);
-        self.right(rand, sqn(self.card.seq_ms() + 1, ind))
+        let edition = self.card.row();
+        let ind = self.random.below(edition.indices());
+        self.right(rand, edition.sqn(self.card.seq_ms() + 1, ind))
     }
 
     fn fresh(&mut self) -> Challenge {
@@ -179,7 +185,7 @@ impl Story<'_> {
     /// One for which the card says sync.
     fn stale(&mut self) -> Challenge {
         let rand = self.rand();
-        self.right(rand, sqn(0, 0))
+        self.right(rand, 0)
     }
 
     /// One for which the card says mac.
@@ -195,46 +201,70 @@ impl Story<'_> {
     }
 }
 
+type Section = fn(&Edition, &mut Random) -> Vec<Vec<u8>>;
+
+/// What is tried with cards of edition 1.
+const ALL: [Section; 15] = [
+    each_length,
+    several_lengths,
+    bad_images,
+    zero_rands,
+    unheld,
+    other_autns,
+    other_cards,
+    near_rands,
+    failures_between,
+    second_acceptances,
+    voice_and_data,
+    fresh_bytes,
+    clears,
+    cleared_stores,
+    walks,
+];
+
+/// What is tried with cards of the later editions, whose images are long.
+const SOME: [Section; 5] = [
+    bad_images,
+    other_cards,
+    failures_between,
+    second_acceptances,
+    cleared_stores,
+];
+
 pub fn lines() -> Vec<Vec<u8>> {
     let mut random = Random::new(33_104);
-    let mut lines = sample();
-    for section in [
-        each_length,
-        several_lengths,
-        bad_images,
-        zero_rands,
-        unheld,
-        other_autns,
-        other_cards,
-        near_rands,
-        failures_between,
-        second_acceptances,
-        voice_and_data,
-        fresh_bytes,
-        clears,
-        cleared_stores,
-        walks,
-        handset_form_lines::edges,
-    ] {
-        lines.extend(section(&mut random));
+    let mut lines = sections(&EDITION_1, &ALL, &mut random);
+    lines.extend(handset_form_lines::edges(&mut random));
+    lines
+}
+
+/// The lines with cards of a later edition.
+pub fn later(edition: &Edition, random: &mut Random) -> Vec<Vec<u8>> {
+    sections(edition, &SOME, random)
+}
+
+fn sections(edition: &Edition, sections: &[Section], random: &mut Random) -> Vec<Vec<u8>> {
+    let mut lines = sample(edition);
+    for section in sections {
+        lines.extend(section(edition, random));
     }
     lines
 }
 
 /// The challenge of the sample run: accepted, then repeated, then asked of the
 /// card again because the mark is not set.
-fn sample() -> Vec<Vec<u8>> {
-    let card = Card::new(sample_subscriber());
+fn sample(edition: &Edition) -> Vec<Vec<u8>> {
+    let card = Card::new(edition.number, sample_subscriber());
     let mut lent = Lent {
         store: Store::cleared(),
-        image: image_of(&card).to_vec(),
+        image: image_of(&card),
         rand: vec![0; RAND],
-        autn: autn(&card, &[0; RAND], sqn(1, 0), &[0, 1]).to_vec(),
+        autn: autn(&card, &[0; RAND], edition.sqn(1, 0), &[0, 1]).to_vec(),
         fresh: vec![0; ANSWER],
     };
     let mut lines = vec![lent.line()];
     let answer = lent.answer(&card);
-    lent.image = image_of(&answer.card).to_vec();
+    lent.image = image_of(&answer.card);
     lent.fresh = answer.fresh;
     lent.store = answer.store;
     lines.push(lent.line());
@@ -245,10 +275,10 @@ fn sample() -> Vec<Vec<u8>> {
 
 /// What would be a repeat; what the card would accept though the same RAND is
 /// stored, since it is not held; and what it would accept beside a held one.
-fn three_calls(random: &mut Random) -> [Lent; 3] {
-    let (mut story, held) = Story::holding(1, random);
+fn three_calls(edition: &Edition, random: &mut Random) -> [Lent; 3] {
+    let (mut story, held) = Story::holding(edition, 1, random);
     let repeat = story.lent(&held);
-    let (mut story, held) = Story::holding(0, random);
+    let (mut story, held) = Story::holding(edition, 0, random);
     let renewed = story.fresh_for(held.rand);
     let mut unheld = story.lent(&renewed);
     unheld.store.held = false;
@@ -257,9 +287,9 @@ fn three_calls(random: &mut Random) -> [Lent; 3] {
 }
 
 /// Each part in other lengths, the last one with the low bits of the right one.
-fn each_length(random: &mut Random) -> Vec<Vec<u8>> {
+fn each_length(edition: &Edition, random: &mut Random) -> Vec<Vec<u8>> {
     let mut lines = Vec::new();
-    for lent in three_calls(random) {
+    for lent in three_calls(edition, random) {
         lines.push(lent.line());
         for part in 0..RIGHT.len() {
             let right = RIGHT[part];
@@ -275,9 +305,9 @@ fn each_length(random: &mut Random) -> Vec<Vec<u8>> {
 
 /// Several parts of other lengths, also such as are right for another part or
 /// together as long as they should be.
-fn several_lengths(random: &mut Random) -> Vec<Vec<u8>> {
+fn several_lengths(edition: &Edition, random: &mut Random) -> Vec<Vec<u8>> {
     let mut lines = Vec::new();
-    for lent in three_calls(random) {
+    for lent in three_calls(edition, random) {
         for lengths in [
             [15, 17, 56, 40],
             [17, 15, 56, 40],
@@ -308,13 +338,16 @@ fn several_lengths(random: &mut Random) -> Vec<Vec<u8>> {
 
 /// Images that are not read, with what would be a repeat and what the card
 /// would be asked, in right lengths and in others.
-fn bad_images(random: &mut Random) -> Vec<Vec<u8>> {
+fn bad_images(edition: &Edition, random: &mut Random) -> Vec<Vec<u8>> {
     let mut lines = Vec::new();
-    for lent in three_calls(random) {
+    for lent in three_calls(edition, random) {
         let image = &lent.image;
+        let set = 16 * edition.number;
         let begun_with = |first| [&[first], &image[1..]].concat();
-        let mut images = [0x01, 0x20, 0xf1, 0x12, 0x1f].map(begun_with).to_vec();
-        images.extend([0, 41, 204].map(|length| image[..length].to_vec()));
+        let mut images = [0x01, 0x30, 0xf1, set + 2, set + 15]
+            .map(begun_with)
+            .to_vec();
+        images.extend([0, 41, image.len() - 1].map(|length| image[..length].to_vec()));
         images.push([&image[..], &[0]].concat());
         for (turn, image) in images.into_iter().enumerate() {
             let mut lengths = RIGHT;
@@ -331,12 +364,12 @@ fn bad_images(random: &mut Random) -> Vec<Vec<u8>> {
 
 /// A RAND of zeros is one like any other: a cleared store does not match it,
 /// a held one does, even where the answer is zeros too.
-fn zero_rands(random: &mut Random) -> Vec<Vec<u8>> {
+fn zero_rands(edition: &Edition, random: &mut Random) -> Vec<Vec<u8>> {
     let mut lines = Vec::new();
     for set in SETS {
-        let (mut story, _) = Story::holding(set, random);
+        let (mut story, _) = Story::holding(edition, set, random);
         let fresh = story.fresh_for([0; RAND]);
-        let stale = story.right([0; RAND], sqn(0, 0));
+        let stale = story.right([0; RAND], 0);
         let wrong = story.spoilt(fresh);
         let other = story.stores[VOICE].clone();
         let mut zeros = Store::cleared();
@@ -360,10 +393,10 @@ fn zero_rands(random: &mut Random) -> Vec<Vec<u8>> {
 
 /// Bytes that are not held match no RAND, whatever they are, and an acceptance
 /// takes their place. The same bytes held are repeated.
-fn unheld(random: &mut Random) -> Vec<Vec<u8>> {
+fn unheld(edition: &Edition, random: &mut Random) -> Vec<Vec<u8>> {
     let mut lines = Vec::new();
     for set in SETS {
-        let (mut story, held) = Story::holding(set, random);
+        let (mut story, held) = Story::holding(edition, set, random);
         let fresh = story.fresh_for(held.rand);
         let wrong = story.spoilt(fresh);
         let right = story.stores[VOICE].bytes.clone();
@@ -391,10 +424,10 @@ fn unheld(random: &mut Random) -> Vec<Vec<u8>> {
 
 /// A repeat with any AUTN: each byte damaged, right for another RAND or for a
 /// later number, and none that was ever made.
-fn other_autns(random: &mut Random) -> Vec<Vec<u8>> {
+fn other_autns(edition: &Edition, random: &mut Random) -> Vec<Vec<u8>> {
     let mut lines = Vec::new();
     for set in SETS {
-        let (mut story, held) = Story::holding(set, random);
+        let (mut story, held) = Story::holding(edition, set, random);
         let later = story.fresh_for(held.rand).autn;
         let mut autns = vec![later, story.fresh().autn, story.stale().autn];
         autns.extend([[0; AUTN], [0xff; AUTN], held.rand, story.rand()]);
@@ -413,23 +446,23 @@ fn other_autns(random: &mut Random) -> Vec<Vec<u8>> {
 
 /// A repeat with another card, or with another record of the same one: also the
 /// record that would accept the challenge again.
-fn other_cards(random: &mut Random) -> Vec<Vec<u8>> {
+fn other_cards(edition: &Edition, random: &mut Random) -> Vec<Vec<u8>> {
     let mut lines = Vec::new();
     for set in SETS {
-        let (mut story, held) = Story::holding(set, random);
+        let (mut story, held) = Story::holding(edition, set, random);
         let card = story.card.clone();
         let last = card.seq_ms();
-        let mut cards: Vec<Card> = [0, last - 1, last, SEQ_LIMIT]
+        let mut cards: Vec<Card> = [0, last - 1, last, edition.seq_limit()]
             .map(|seq| Card {
-                places: [seq; PLACES],
+                places: edition.places(|_| seq),
                 ..card.clone()
             })
             .to_vec();
         let mut other_set = card;
         other_set.subscriber.set = 1 - set;
         cards.push(other_set);
-        cards.extend(SETS.map(|set| new_card(set, story.random)));
-        cards.extend(SETS.map(|set| random_card(set, story.random)));
+        cards.extend(SETS.map(|set| new_card(edition, set, story.random)));
+        cards.extend(SETS.map(|set| random_card(edition, set, story.random)));
         for card in cards {
             story.card = card;
             story.give(&held);
@@ -441,10 +474,10 @@ fn other_cards(random: &mut Random) -> Vec<Vec<u8>> {
 
 /// RANDs that differ from the stored one in one byte or one bit, or that have
 /// the same bytes in another order: the card is asked.
-fn near_rands(random: &mut Random) -> Vec<Vec<u8>> {
+fn near_rands(edition: &Edition, random: &mut Random) -> Vec<Vec<u8>> {
     let mut lines = Vec::new();
     for set in SETS {
-        let (mut story, held) = Story::holding(set, random);
+        let (mut story, held) = Story::holding(edition, set, random);
         let mut rands = other_orders(&held.rand);
         for place in 0..RAND {
             let mut near = held.rand;
@@ -485,10 +518,10 @@ fn other_orders(rand: &Block) -> Vec<Block> {
 }
 
 /// Failures and refusals leave the store: what was accepted before is repeated.
-fn failures_between(random: &mut Random) -> Vec<Vec<u8>> {
+fn failures_between(edition: &Edition, random: &mut Random) -> Vec<Vec<u8>> {
     let mut lines = Vec::new();
     for set in SETS {
-        let (mut story, held) = Story::holding(set, random);
+        let (mut story, held) = Story::holding(edition, set, random);
         for failure in [Story::wrong, Story::stale] {
             let failed = failure(&mut story);
             story.give(&failed);
@@ -509,10 +542,10 @@ fn failures_between(random: &mut Random) -> Vec<Vec<u8>> {
 
 /// A second acceptance takes the place of the first, whose RAND then is asked of
 /// the card again; a later number for that RAND is accepted and held.
-fn second_acceptances(random: &mut Random) -> Vec<Vec<u8>> {
+fn second_acceptances(edition: &Edition, random: &mut Random) -> Vec<Vec<u8>> {
     let mut lines = Vec::new();
     for set in SETS {
-        let (mut story, first) = Story::holding(set, random);
+        let (mut story, first) = Story::holding(edition, set, random);
         let second = story.fresh();
         for challenge in [first, second, second, first, second] {
             story.give(&challenge);
@@ -527,10 +560,10 @@ fn second_acceptances(random: &mut Random) -> Vec<Vec<u8>> {
 }
 
 /// Each domain has its own store, and the other one's RAND asks the card.
-fn voice_and_data(random: &mut Random) -> Vec<Vec<u8>> {
+fn voice_and_data(edition: &Edition, random: &mut Random) -> Vec<Vec<u8>> {
     let mut lines = Vec::new();
     for set in SETS {
-        let (mut story, voice) = Story::holding(set, random);
+        let (mut story, voice) = Story::holding(edition, set, random);
         story.give_on(DATA, &voice);
         let data = story.fresh();
         for (domain, challenge) in [(DATA, data), (VOICE, data), (VOICE, voice), (DATA, data)] {
@@ -554,10 +587,10 @@ fn voice_and_data(random: &mut Random) -> Vec<Vec<u8>> {
 
 /// What stands in the bytes for a fresh answer is written over by an acceptance
 /// alone, and never shown.
-fn fresh_bytes(random: &mut Random) -> Vec<Vec<u8>> {
+fn fresh_bytes(edition: &Edition, random: &mut Random) -> Vec<Vec<u8>> {
     let mut lines = Vec::new();
     for set in SETS {
-        let (mut story, held) = Story::holding(set, random);
+        let (mut story, held) = Story::holding(edition, set, random);
         let stored = story.stores[VOICE].bytes[RAND..].to_vec();
         for challenge in [held, story.fresh(), story.stale(), story.wrong()] {
             let mut lent = story.lent(&challenge);
@@ -573,8 +606,8 @@ fn fresh_bytes(random: &mut Random) -> Vec<Vec<u8>> {
     lines
 }
 
-/// Stores of every sort cleared, held and not.
-fn clears(random: &mut Random) -> Vec<Vec<u8>> {
+/// Stores of every sort cleared, held and not. A store has no edition.
+fn clears(_: &Edition, random: &mut Random) -> Vec<Vec<u8>> {
     let mut lines = Vec::new();
     for held in [false, true] {
         let mut sorts = vec![vec![0; STORED], vec![0xff; STORED]];
@@ -592,10 +625,10 @@ fn clears(random: &mut Random) -> Vec<Vec<u8>> {
 }
 
 /// After a clear the same RAND is asked of the card again.
-fn cleared_stores(random: &mut Random) -> Vec<Vec<u8>> {
+fn cleared_stores(edition: &Edition, random: &mut Random) -> Vec<Vec<u8>> {
     let mut lines = Vec::new();
     for set in SETS {
-        let (mut story, first) = Story::holding(set, random);
+        let (mut story, first) = Story::holding(edition, set, random);
         story.clear();
         story.give(&first);
         story.clear();
@@ -614,10 +647,10 @@ fn cleared_stores(random: &mut Random) -> Vec<Vec<u8>> {
 }
 
 /// Challenges, repeats, failures, refusals and clears at random.
-fn walks(random: &mut Random) -> Vec<Vec<u8>> {
+fn walks(edition: &Edition, random: &mut Random) -> Vec<Vec<u8>> {
     let mut lines = Vec::new();
     for turn in 0..16 {
-        let mut story = Story::of(random_card(turn % 2, random), random);
+        let mut story = Story::of(random_card(edition, turn % 2, random), random);
         let mut known = vec![story.fresh()];
         for _ in 0..12 {
             step(&mut story, &mut known);

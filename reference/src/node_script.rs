@@ -3,6 +3,7 @@
 
 use crate::auc_call_lines::{batch_of, new_auc, rands};
 use crate::calls;
+use crate::editions::EDITION_1;
 use crate::place::{Item, Kind, Place, KINDS, NONE};
 use crate::random::Random;
 use crate::text::{write_bytes, write_hex, write_number};
@@ -120,7 +121,7 @@ impl Script {
 
     /// A batch that a centre made by MILENAGE; for triplets it is converted.
     pub fn given(&mut self, kind: Kind, n: usize) -> Vec<u8> {
-        let auc = new_auc(1, &mut self.random);
+        let auc = new_auc(&EDITION_1, 1, &mut self.random);
         let batch = batch_of(&auc, &rands(n, &mut self.random));
         match kind {
             Kind::Vector => batch,

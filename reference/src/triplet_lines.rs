@@ -4,6 +4,7 @@
 use crate::auc_call_lines::{auc_with, batch_of, new_auc, triplets_line, Lent};
 use crate::auc_form_lines::{no_numbers, other_fields};
 use crate::calls::LONGEST;
+use crate::editions::EDITION_1;
 use crate::functions::Subscriber;
 use crate::published::{self, MilenageVector};
 use crate::random::Random;
@@ -86,7 +87,10 @@ fn published() -> Vec<Vec<u8>> {
         k: std::array::from_fn(|i| i as u8),
         opc: [0; 16],
     };
-    let mut lines = vec![fitting(&batch_of(&Auc::new(sample, [0, 1]), &[0; 16]))];
+    let mut lines = vec![fitting(&batch_of(
+        &Auc::new(EDITION_1.number, sample, [0, 1]),
+        &[0; 16],
+    ))];
     let sets: Vec<_> = published::milenage().iter().map(vector_of).collect();
     lines.extend(sets.chunks(MOST).map(|sets| fitting(&sets.concat())));
     lines
@@ -110,7 +114,7 @@ fn orders(random: &mut Random) -> Vec<Vec<u8>> {
     let mut lines = Vec::new();
     for n in 1..=MOST {
         for set in [0, 1] {
-            let auc = auc_with(set, 700, 30, random);
+            let auc = auc_with(&EDITION_1, set, 700, 30, random);
             let lent = Lent::new(&auc, n, random);
             lines.push(lent.order());
             lines.push(fitting(&batch_of(&auc, &lent.rands)));
@@ -176,7 +180,7 @@ fn buffer_lengths(random: &mut Random) -> Vec<Vec<u8>> {
             lines.push(line(&batch, length));
         }
     }
-    let batch = batch_of(&new_auc(1, random), &bytes(16, random));
+    let batch = batch_of(&new_auc(&EDITION_1, 1, random), &bytes(16, random));
     for length in [
         "2",
         "16",
@@ -215,7 +219,7 @@ fn mixed(random: &mut Random) -> Vec<Vec<u8>> {
         let n = 1 + turn % MOST;
         let batch = match turn % 3 {
             0 => {
-                let auc = new_auc(1, random);
+                let auc = new_auc(&EDITION_1, 1, random);
                 batch_of(&auc, &Lent::new(&auc, n, random).rands)
             }
             1 => bytes(LENGTH * n, random),

@@ -1,12 +1,11 @@
 //! The card: its record and its answer to a challenge.
 
 use crate::block::{part, xor, Block};
+use crate::editions::{self, Edition};
 use crate::functions::{Outputs, Subscriber};
 
-pub const PLACES: usize = 32;
-
-/// The largest SEQ.
-pub const SEQ_LIMIT: u64 = 8_796_093_022_207;
+/// The places of every record. What an edition has no index for is zero.
+pub const PLACES: usize = 64;
 
 /// D, the largest jump.
 pub const D: u64 = 268_435_456;
@@ -23,6 +22,7 @@ pub const BAD_LENGTH: Refusal = Refusal(3);
 
 #[derive(Clone, Debug, PartialEq, Eq)]
 pub struct Card {
+    pub edition: u8,
     pub subscriber: Subscriber,
     /// One SEQ for each IND.
     pub places: [u64; PLACES],
@@ -47,19 +47,6 @@ pub struct Answer {
     pub auts: [u8; 14],
 }
 
-/// SQN = 32 x SEQ + IND.
-pub fn sqn(seq: u64, ind: usize) -> u64 {
-    PLACES as u64 * seq + ind as u64
-}
-
-pub fn seq(sqn: u64) -> u64 {
-    sqn / PLACES as u64
-}
-
-pub fn ind(sqn: u64) -> usize {
-    (sqn % PLACES as u64) as usize
-}
-
 /// An SQN in its 48 bits.
 pub fn sqn_bytes(sqn: u64) -> [u8; 6] {
     let [0, 0, bytes @ ..] = sqn.to_be_bytes() else {
@@ -76,15 +63,27 @@ pub fn sqn_of_bytes(bytes: &[u8; 6]) -> u64 {
 
 impl Card {
     /// All places of a new card are 0.
-    pub fn new(subscriber: Subscriber) -> Card {
+    pub fn new(edition: u8, subscriber: Subscriber) -> Card {
         Card {
+            edition,
             subscriber,
             places: [0; PLACES],
         }
     }
 
     pub fn is_valid(&self) -> bool {
-        self.subscriber.set <= 1 && self.places.iter().all(|&seq| seq <= SEQ_LIMIT)
+        let Some(edition) = editions::of(self.edition) else {
+            return false;
+        };
+        let (places, behind) = self.places.split_at(edition.indices());
+        self.subscriber.set <= 1
+            && places.iter().all(|&seq| seq <= edition.seq_limit())
+            && behind.iter().all(|&seq| seq == 0)
+    }
+
+    /// The row of a valid card.
+    pub fn row(&self) -> &'static Edition {
+        editions::of(self.edition).expect("a valid card has a known edition")
     }
 
     /// The highest place.
@@ -96,7 +95,8 @@ impl Card {
     pub fn sqn_ms(&self) -> u64 {
         let highest = self.seq_ms();
         let index = self.places.iter().position(|&seq| seq == highest);
-        sqn(highest, index.expect("the highest place is a place"))
+        self.row()
+            .sqn(highest, index.expect("the highest place is a place"))
     }
 
     /// The answer to a RAND and an AUTN of any bytes.
@@ -128,9 +128,10 @@ impl Card {
 
     /// A SEQ below SEQ_MS is no jump.
     fn is_fresh(&self, sqn: u64) -> bool {
-        let (seq, seq_ms) = (seq(sqn), self.seq_ms());
+        let (seq, ind) = (self.row().seq(sqn), self.row().ind(sqn));
+        let seq_ms = self.seq_ms();
         let jumps_too_far = seq > seq_ms && seq - seq_ms > D;
-        seq > self.places[ind(sqn)] && !jumps_too_far
+        seq > self.places[ind] && !jumps_too_far
     }
 
     /// AUTS is SQN_MS xor AK*, then MAC-S.
@@ -145,7 +146,7 @@ impl Card {
 
     fn acceptance(&self, sqn: u64, outputs: Outputs) -> Answer {
         let mut answer = self.unchanged(Verdict::Accepted { sqn });
-        answer.card.places[ind(sqn)] = seq(sqn);
+        answer.card.places[self.row().ind(sqn)] = self.row().seq(sqn);
         answer.res = outputs.res;
         answer.ck = outputs.ck;
         answer.ik = outputs.ik;

@@ -1,6 +1,6 @@
 //! The words of `calls` for the card.
 
-use crate::calls::{read_length, read_subscriber, write_image, write_refusal};
+use crate::calls::{read_length, read_small, read_subscriber, write_image, write_refusal};
 use crate::image;
 use crate::text::{read_bytes, read_number, write_hex, write_number};
 use crate::usim::{Answer, Card, Refusal, Verdict};
@@ -8,14 +8,18 @@ use crate::usim::{Answer, Card, Refusal, Verdict};
 /// None where the line is none of these words or of another form.
 pub fn call(fields: &[&[u8]]) -> Option<Vec<u8>> {
     let printed = match *fields {
-        [b"card-new", set, k, opc] => card_new(&Card::new(read_subscriber([set, k, opc])?)),
+        [b"card-new", edition, set, k, opc] => card_new(&Card::new(
+            read_small(edition)?,
+            read_subscriber([set, k, opc])?,
+        )),
         [b"challenge", image, rand, autn] => {
             challenge(&read_bytes(image)?, &read_bytes(rand)?, &read_bytes(autn)?)
         }
         [b"card-read", image] => card_read(&read_bytes(image)?),
-        [b"card-write", set, k, opc, length, ref places @ ..] => {
-            card_write(&read_card([set, k, opc], places)?, read_length(length)?)
-        }
+        [b"card-write", edition, set, k, opc, length, ref places @ ..] => card_write(
+            &read_card(edition, [set, k, opc], places)?,
+            read_length(length)?,
+        ),
         _ => return None,
     };
     Some(printed.unwrap_or_else(write_refusal))
@@ -36,9 +40,14 @@ fn challenge(image: &[u8], rand: &[u8], autn: &[u8]) -> Result<Vec<u8>, Refusal>
 }
 
 fn card_read(image: &[u8]) -> Result<Vec<u8>, Refusal> {
-    let Card { subscriber, places } = image::read(image)?;
+    let Card {
+        edition,
+        subscriber,
+        places,
+    } = image::read(image)?;
     let mut fields = vec![
         b"card".to_vec(),
+        write_number(edition.into()),
         write_number(subscriber.set.into()),
         write_hex(&subscriber.k),
         write_hex(&subscriber.opc),
@@ -53,9 +62,10 @@ fn card_write(card: &Card, length: usize) -> Result<Vec<u8>, Refusal> {
     Ok(write_image(&buffer))
 }
 
-fn read_card(keys: [&[u8]; 3], places: &[&[u8]]) -> Option<Card> {
+fn read_card(edition: &[u8], keys: [&[u8]; 3], places: &[&[u8]]) -> Option<Card> {
     let places: Option<Vec<u64>> = places.iter().map(|place| read_number(place)).collect();
     Some(Card {
+        edition: read_small(edition)?,
         subscriber: read_subscriber(keys)?,
         places: places?.try_into().ok()?,
     })

@@ -1,14 +1,25 @@
-//! The centre against document 01's numbers, the sample run and its own edges.
+//! The centre against document 01's numbers, the sample run and its own edges,
+//! in edition 1.
 
 use reference::auc::{Auc, Refused, Start};
-use reference::auc_call_lines::{auts, rands};
+use reference::auc_call_lines::{self, rands};
+use reference::editions::EDITION_1;
 use reference::functions::Subscriber;
 use reference::random::Random;
 use reference::text::{read_hex, write_hex};
-use reference::usim::{sqn, Card, Refusal, Verdict, D, SEQ_LIMIT};
+use reference::usim::{Card, Refusal, Verdict, D};
 use reference::vector::{handed_back, Vector, LENGTH};
 
 const RAND: [u8; 16] = [0x5a; 16];
+const SEQ_LIMIT: u64 = 8_796_093_022_207;
+
+fn sqn(seq: u64, ind: usize) -> u64 {
+    EDITION_1.sqn(seq, ind)
+}
+
+fn auts(subscriber: &Subscriber, rand: &[u8; 16], seq_ms: u64, ind: usize) -> [u8; 14] {
+    auc_call_lines::auts(&EDITION_1, subscriber, rand, seq_ms, ind)
+}
 
 fn hex<const N: usize>(digits: &str) -> [u8; N] {
     read_hex(digits.as_bytes()).expect("hex of this length")
@@ -23,7 +34,7 @@ fn auc(set: u8, seq_he: u64, next: u8) -> Auc {
     Auc {
         seq_he,
         next,
-        ..Auc::new(subscriber, [0x80, 1])
+        ..Auc::new(1, subscriber, [0x80, 1])
     }
 }
 
@@ -103,7 +114,7 @@ fn a_batch_counts_up_with_one_index() {
             let (next, batch) = order(&before, count).unwrap();
             let n = if count == 0 { 5 } else { count };
             let expected: Vec<u64> = (41..41 + n).map(|seq| sqn(seq, 30)).collect();
-            let mut card = Card::new(before.subscriber.clone());
+            let mut card = Card::new(1, before.subscriber.clone());
             assert_eq!(accepted(&mut card, &batch), expected);
             assert_eq!(next, auc(set, 40 + n, 31));
             assert_eq!(order(&next, 1).unwrap().0, auc(set, 41 + n, 0));
@@ -135,7 +146,7 @@ fn the_four_cases_kept_and_reset() {
             let (start, next, batch) = resync(&auc, 5, &auts).unwrap();
             assert_eq!(start, expected);
             assert_eq!((next.seq_he, next.next), (first + 4, 8));
-            let mut card = Card::new(auc.subscriber.clone());
+            let mut card = Card::new(1, auc.subscriber.clone());
             card.places[3] = 100;
             let numbers: Vec<u64> = (first..first + 5).map(|seq| sqn(seq, 7)).collect();
             assert_eq!(accepted(&mut card, &batch), numbers);

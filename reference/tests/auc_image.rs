@@ -1,10 +1,13 @@
 //! The centre's packed image: its layout, both round trips and the refusals.
 
 use reference::auc::Auc;
-use reference::auc_image::{image, read, write, LENGTH};
+use reference::auc_image::{image, read, write};
 use reference::functions::Subscriber;
 use reference::random::Random;
-use reference::usim::{Refusal, SEQ_LIMIT};
+use reference::usim::Refusal;
+
+const LENGTH: usize = 41;
+const SEQ_LIMIT: u64 = 8_796_093_022_207;
 
 fn auc(set: u8, seq_he: u64, next: u8) -> Auc {
     let subscriber = Subscriber {
@@ -15,7 +18,7 @@ fn auc(set: u8, seq_he: u64, next: u8) -> Auc {
     Auc {
         seq_he,
         next,
-        ..Auc::new(subscriber, [0xab, 0xcd])
+        ..Auc::new(1, subscriber, [0xab, 0xcd])
     }
 }
 
@@ -27,7 +30,7 @@ fn the_layout_of_a_made_up_record() {
     expected.extend([0xab, 0xcd]);
     // SEQ_HE and the index together are the 48 bits of an SQN.
     expected.extend([0, 0, 0, 0, 0b0000_0110, 0b0101_1111]);
-    assert_eq!(image(&auc(1, 50, 31)).unwrap().to_vec(), expected);
+    assert_eq!(image(&auc(1, 50, 31)).unwrap(), expected);
     assert_eq!(read(&expected), Ok(auc(1, 50, 31)));
 }
 
@@ -36,11 +39,11 @@ fn each_bit_has_its_bit_in_the_image() {
     let zeros = image(&auc(0, 0, 0)).unwrap();
     for bit in 0..48 {
         let (seq_he, next) = ((1u64 << bit) / 32, ((1u64 << bit) % 32) as u8);
-        let mut expected = zeros;
+        let mut expected = zeros.clone();
         let at = 8 * LENGTH - 1 - bit;
         expected[at / 8] ^= 0x80 >> (at % 8);
-        assert_eq!(image(&auc(0, seq_he, next)), Ok(expected));
         assert_eq!(read(&expected), Ok(auc(0, seq_he, next)));
+        assert_eq!(image(&auc(0, seq_he, next)), Ok(expected));
     }
 }
 
@@ -52,30 +55,32 @@ fn both_round_trips() {
         bytes[0] = 0x10 + turn % 2;
         let record = read(&bytes).unwrap();
         assert!(record.is_valid());
-        assert_eq!(image(&record), Ok(bytes));
+        assert_eq!(image(&record), Ok(bytes.to_vec()));
         assert_eq!(read(&image(&record).unwrap()), Ok(record));
     }
 }
 
 #[test]
-fn only_edition_1_of_a_known_set_is_read() {
+fn only_a_known_edition_and_a_known_set_are_read() {
     let mut bytes = image(&auc(0, 9, 9)).unwrap();
     for first in 0..=255 {
         bytes[0] = first;
         match first {
             0x10 | 0x11 => assert_eq!(read(&bytes), Ok(auc(first & 15, 9, 9))),
+            0x20 | 0x21 => assert_eq!(read(&bytes).unwrap().edition, 2),
             _ => assert_eq!(read(&bytes), Err(Refusal(1))),
         }
     }
 }
 
 #[test]
-fn other_lengths_are_not_looked_at() {
-    for first in [0x10, 0x00] {
-        let mut bytes = image(&auc(0, 9, 9)).unwrap().repeat(6);
+fn an_unknown_edition_comes_before_another_length() {
+    for (first, number) in [(0x10, 3), (0x12, 3), (0x20, 3), (0x00, 1), (0x30, 1)] {
+        let mut bytes = image(&auc(0, 9, 9)).unwrap().repeat(10);
         bytes[0] = first;
-        for length in (0..bytes.len()).filter(|&length| length != LENGTH) {
-            assert_eq!(read(&bytes[..length]), Err(Refusal(3)));
+        assert_eq!(read(&[]), Err(Refusal(3)));
+        for length in (1..bytes.len()).filter(|&length| length != LENGTH) {
+            assert_eq!(read(&bytes[..length]), Err(Refusal(number)));
         }
     }
 }

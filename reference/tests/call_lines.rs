@@ -1,9 +1,8 @@
 //! The generated calls: what they must hold.
 
 use reference::generate::{files, NodeLines, LONG, PIECE};
-use reference::image::LENGTH;
 use reference::text::lines;
-use reference::{calls, handset_lines};
+use reference::{calls, edition_lines, handset_lines};
 
 struct Calls {
     input: Vec<u8>,
@@ -73,6 +72,10 @@ fn every_answer_to_every_word() {
         ("challenge 11", "sync ", 30),
         ("challenge 10", "mac", 30),
         ("challenge 11", "mac", 30),
+        ("challenge 20", "accepted ", 100),
+        ("challenge 21", "accepted ", 100),
+        ("challenge 2", "sync ", 100),
+        ("challenge 2", "mac", 5),
         ("card-new ", "image ", 8),
         ("card-new ", "refused 1", 16),
         ("auc-new ", "image ", 8),
@@ -166,17 +169,19 @@ fn every_pair_of_equal_rands_is_named() {
 }
 
 #[test]
-fn the_lines_for_the_node_can_be_left_out_and_those_for_the_handset_come_last() {
+fn the_lines_for_the_node_can_be_left_out_and_those_for_the_editions_come_last() {
     let with = Calls::generated();
     let without = file(NodeLines::Without, "calls/stdin");
     let (all, fewer) = (lines(&with.input), lines(&without));
-    // An empty line and a good one end both, behind the lines for the handset.
-    let handset_lines = handset_lines::lines();
-    let last = handset_lines.len() + 2;
+    // An empty line and a good one end both, behind the lines for the handset
+    // and the editions.
+    let mut last_lines = handset_lines::lines();
+    last_lines.extend(edition_lines::lines());
+    let last = last_lines.len() + 2;
     let (same, from) = (fewer.len() - last, all.len() - last);
     assert_eq!(all[..same], fewer[..same]);
     assert_eq!(all[from..], fewer[same..]);
-    assert_eq!(all[from..all.len() - 2], handset_lines);
+    assert_eq!(all[from..all.len() - 2], last_lines);
     let answers = lines(&with.output);
     let node_lines = &answers[same..from];
     let operations = node_lines.iter().filter(|line| **line != b"bad line");
@@ -206,10 +211,10 @@ fn accepted_images_are_used_again() {
     let calls = Calls::generated();
     let pairs = calls.pairs();
     let replayed = pairs.iter().filter(|(line, answer)| {
-        let Some(image) = answer.strip_prefix(b"accepted ") else {
+        if !answer.starts_with(b"accepted ") {
             return false;
-        };
-        let image = &image[image.len() - 2 * LENGTH..];
+        }
+        let image = answer.rsplit(|&b| b == b' ').next().unwrap();
         let rand_and_autn = &line[line.len() - 66..];
         let again = [b"challenge ", image, rand_and_autn].concat();
         let (_, answer) = pairs
@@ -240,8 +245,8 @@ fn written_images_are_read() {
 #[test]
 fn the_size_the_bytes_and_the_end() {
     let calls = Calls::generated();
-    assert!((1_000_000..2_200_000).contains(&calls.input.len()));
-    assert!(calls.output.len() < 3_400_000);
+    assert!((4_000_000..4_600_000).contains(&calls.input.len()));
+    assert!(calls.output.len() < 5_200_000);
     assert!((0..=255).all(|byte| calls.input.contains(&byte)));
     assert_ne!(calls.input.last(), Some(&b'\n'));
     assert_eq!(calls.output.last(), Some(&b'\n'));
@@ -263,11 +268,14 @@ fn the_greatest_length_is_answered_and_no_more() {
             .collect()
     };
     assert_eq!(answers(4_095), [b"refused 3"; 2]);
-    let mut longest: [&[u8]; 9] = [b"refused 3"; 9];
-    longest[2] = b"vector -";
-    assert_eq!(answers(4_096), longest);
+    let longest = answers(4_096);
+    for (answer, times) in [("refused 3", 15), ("refused 1", 3), ("vector -", 1)] {
+        let found = longest.iter().filter(|a| **a == answer.as_bytes());
+        assert_eq!(found.count(), times, "{answer}");
+    }
+    assert_eq!(longest.len(), 15 + 3 + 1);
     assert_eq!(answers(4_097), [b"bad line"; 2]);
-    assert_eq!(answers(4_098), [b"bad line"; 7]);
+    assert_eq!(answers(4_098), [b"bad line"; 17]);
 }
 
 /// Where each line starts, with the line.

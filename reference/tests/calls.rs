@@ -25,8 +25,8 @@ fn challenge(image: &str, rand: &str, autn: &str) -> String {
 }
 
 fn write_line(set: &str, length: &str, place: &str) -> String {
-    let zeros = " 0".repeat(31);
-    format!("card-write {set} {K} {RAND} {length} {place}{zeros}")
+    let zeros = " 0".repeat(63);
+    format!("card-write 1 {set} {K} {RAND} {length} {place}{zeros}")
 }
 
 #[test]
@@ -42,15 +42,24 @@ fn the_sample_run() {
 #[test]
 fn a_challenge_is_refused_by_its_lowest_number() {
     let good = image(0);
-    let unknown = good.replacen("10", "20", 1);
-    let short = &good[2..];
+    let unknown = good.replacen("10", "30", 1);
+    let short = &good[..408];
     for other in ["-", "00", &RAND[2..], &AUTN.repeat(2)] {
         assert_eq!(challenge(&good, other, AUTN), "refused 3");
         assert_eq!(challenge(&good, RAND, other), "refused 3");
         assert_eq!(challenge(&unknown, other, AUTN), "refused 1");
         assert_eq!(challenge(&unknown, RAND, other), "refused 1");
         assert_eq!(challenge(short, other, other), "refused 3");
-        assert_eq!(challenge(other, RAND, AUTN), "refused 3");
+    }
+    for (other, printed) in [
+        ("-", "refused 3"),
+        ("00", "refused 1"),
+        (&RAND[2..], "refused 1"),
+        (&K[1..31], "refused 1"),
+        ("10", "refused 3"),
+        ("1f", "refused 3"),
+    ] {
+        assert_eq!(challenge(other, RAND, AUTN), printed);
     }
     assert_eq!(challenge(&unknown, RAND, AUTN), "refused 1");
     assert_eq!(challenge("-", "-", "-"), "refused 3");
@@ -58,9 +67,9 @@ fn a_challenge_is_refused_by_its_lowest_number() {
 
 #[test]
 fn a_card_is_read_and_written() {
-    let zeros = " 0".repeat(31);
+    let zeros = " 0".repeat(63);
     let read = call(&format!("card-read {}", image(1)));
-    assert_eq!(read, format!("card 0 {K} {RAND} 1{zeros}"));
+    assert_eq!(read, format!("card 1 0 {K} {RAND} 1{zeros}"));
     let written = call(&write_line("0", "205", "1"));
     assert_eq!(written, format!("image {}", image(1)));
 }
@@ -69,12 +78,14 @@ fn a_card_is_read_and_written() {
 fn a_read_is_refused() {
     let good = image(0);
     let read = |image: &str| call(&format!("card-read {image}"));
-    for image in ["-", "00", &good[2..], &format!("{good}00")] {
+    for image in ["-", "10", &good[..408], &format!("{good}00")] {
         assert_eq!(read(image), "refused 3");
     }
-    for first in ["00", "20", "f0", "12", "1f", "ff"] {
+    assert_eq!(read("00"), "refused 1");
+    for first in ["00", "30", "60", "f0", "12", "1f", "ff"] {
         assert_eq!(read(&good.replacen("10", first, 1)), "refused 1");
     }
+    assert_eq!(read(&good.replacen("10", "20", 1)), "refused 3");
 }
 
 #[test]
@@ -139,12 +150,13 @@ fn keys_have_sixteen_bytes() {
 }
 
 #[test]
-fn thirty_two_places_are_named() {
+fn sixty_four_places_are_named() {
     let good = write_line("0", "205", "0");
     assert!(call(&good).starts_with("image "));
     assert_eq!(call(&good[..good.len() - 2]), "bad line");
     assert_eq!(call(&format!("{good} 0")), "bad line");
     assert_eq!(call(&format!("{good} ")), "bad line");
+    assert_eq!(call(&good[..good.len() - 64]), "bad line");
 }
 
 #[test]
@@ -200,6 +212,6 @@ fn one_answer_to_each_line() {
     assert_eq!(answers(b""), b"");
     assert_eq!(answers(b"\n"), b"bad line\n");
     let input = b"card-read -\n\n\xff\0\ncard-read 00";
-    let output = b"refused 3\nbad line\nbad line\nrefused 3\n";
+    let output = b"refused 3\nbad line\nbad line\nrefused 1\n";
     assert_eq!(answers(input), output);
 }

@@ -22,23 +22,26 @@ fn image(seq_he: u64, next: u64) -> String {
 #[test]
 fn new_records() {
     let card = format!("image 10{K}{ONES}{}", "0".repeat(344));
-    assert_eq!(call(&format!("card-new 0 {K} {ONES}")), card);
+    assert_eq!(call(&format!("card-new 1 0 {K} {ONES}")), card);
     let auc = format!("image 11{K}{ONES}beef000000000000");
-    assert_eq!(call(&format!("auc-new 1 {K} {ONES} beef")), auc);
+    assert_eq!(call(&format!("auc-new 1 1 {K} {ONES} beef")), auc);
     for set in ["2", "15", "16", "255", "00002"] {
-        assert_eq!(call(&format!("card-new {set} {K} {ONES}")), "refused 1");
-        assert_eq!(call(&format!("auc-new {set} {K} {ONES} beef")), "refused 1");
+        assert_eq!(call(&format!("card-new 1 {set} {K} {ONES}")), "refused 1");
+        assert_eq!(
+            call(&format!("auc-new 1 {set} {K} {ONES} beef")),
+            "refused 1"
+        );
     }
     for line in [
-        format!("card-new 256 {K} {ONES}"),
-        format!("card-new 0 {K} -"),
-        format!("card-new 0 {K} {ONES} beef"),
-        format!("auc-new 256 {K} {ONES} beef"),
-        format!("auc-new 0 {K} {ONES}"),
-        format!("auc-new 0 {K} {ONES} be"),
-        format!("auc-new 0 {K} {ONES} beefed"),
-        format!("auc-new 0 {K} {ONES} BEEF"),
-        format!("auc-new 2 {K} {ONES} -"),
+        format!("card-new 1 256 {K} {ONES}"),
+        format!("card-new 1 0 {K} -"),
+        format!("card-new 1 0 {K} {ONES} beef"),
+        format!("auc-new 1 256 {K} {ONES} beef"),
+        format!("auc-new 1 0 {K} {ONES}"),
+        format!("auc-new 1 0 {K} {ONES} be"),
+        format!("auc-new 1 0 {K} {ONES} beefed"),
+        format!("auc-new 1 0 {K} {ONES} BEEF"),
+        format!("auc-new 1 2 {K} {ONES} -"),
     ] {
         assert_eq!(call(&line), "bad line");
     }
@@ -48,7 +51,7 @@ fn new_records() {
 fn a_centre_is_written_and_read() {
     let write = |set: &str, length: &str, seq_he: &str, next: &str| {
         call(&format!(
-            "auc-write {set} {K} {ZEROS} 0001 {length} {seq_he} {next}"
+            "auc-write 1 {set} {K} {ZEROS} 0001 {length} {seq_he} {next}"
         ))
     };
     assert_eq!(write("0", "41", "9", "7"), format!("image {}", image(9, 7)));
@@ -67,8 +70,9 @@ fn a_centre_is_written_and_read() {
         assert_eq!(bad, "bad line");
     }
     let read = |image: &str| call(&format!("auc-read {image}"));
-    assert_eq!(read(&image(9, 7)), format!("auc 0 {K} {ZEROS} 0001 9 7"));
-    assert_eq!(read(&image(9, 7)[2..]), "refused 3");
+    assert_eq!(read(&image(9, 7)), format!("auc 1 0 {K} {ZEROS} 0001 9 7"));
+    assert_eq!(read(&image(9, 7)[..80]), "refused 3");
+    assert_eq!(read(&image(9, 7)[2..]), "refused 1");
     assert_eq!(read(&image(9, 7).replacen("10", "12", 1)), "refused 1");
     assert_eq!(read("-"), "refused 3");
 }
@@ -86,7 +90,7 @@ fn the_order_of_the_sample_run() {
         order(&image(0, 0), "18446744073709551615", "-", "0"),
         "refused 2"
     );
-    assert_eq!(order(&image(0, 0)[2..], "6", "-", "0"), "refused 3");
+    assert_eq!(order(&image(0, 0)[..80], "6", "-", "0"), "refused 3");
     assert_eq!(
         order(&image(0, 0).replacen("10", "00", 1), "6", "-", "0"),
         "refused 1"

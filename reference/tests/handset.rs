@@ -1,10 +1,14 @@
 //! The handset's store and its answers, rule by rule.
 
+use reference::editions::EDITION_1;
 use reference::functions::Subscriber;
 use reference::handset::{Answer, Outcome, Store, ANSWER, AUTN, RAND, STORED};
 use reference::random::Random;
 use reference::text::read_hex;
-use reference::usim::{self, sqn, sqn_bytes, Card, Refusal, Verdict, PLACES, SEQ_LIMIT};
+use reference::usim::{self, sqn_bytes, Card, Refusal, Verdict};
+
+const PLACES: usize = 32;
+const SEQ_LIMIT: u64 = 8_796_093_022_207;
 
 const REFUSED_1: Outcome = Outcome::Refused(Refusal(1));
 const REFUSED_3: Outcome = Outcome::Refused(Refusal(3));
@@ -20,15 +24,16 @@ fn hex<const N: usize>(digits: &str) -> [u8; N] {
 }
 
 fn card(set: u8) -> Card {
-    Card::new(Subscriber {
+    let subscriber = Subscriber {
         set,
         k: hex("000102030405060708090a0b0c0d0e0f"),
         opc: hex("101112131415161718191a1b1c1d1e1f"),
-    })
+    };
+    Card::new(1, subscriber)
 }
 
 fn autn(card: &Card, rand: &[u8; RAND], seq: u64) -> [u8; AUTN] {
-    let sqn = sqn_bytes(sqn(seq, 7));
+    let sqn = sqn_bytes(EDITION_1.sqn(seq, 7));
     card.subscriber.autn(rand, &sqn, &[0x80, 1]).unwrap()
 }
 
@@ -206,7 +211,7 @@ fn a_repeat_looks_at_neither_autn_nor_card() {
         let later = autn(&phone.card, &A, 2);
         let other = autn(&phone.card, &B, 2);
         let mut full = phone.card.clone();
-        full.places = [SEQ_LIMIT; PLACES];
+        full.places = EDITION_1.places(|_| SEQ_LIMIT);
         let mut bad = full.clone();
         bad.places[0] += 1;
         for card in [&phone.card, &card(set), &card(1 - set), &full, &bad] {
@@ -353,19 +358,20 @@ fn the_sample_run() {
 
 /// A card of any set, now and then one that is not valid.
 fn any_card(random: &mut Random) -> Card {
-    let mut card = Card::new(Subscriber {
+    let subscriber = Subscriber {
         set: random.one_of(&[0, 0, 0, 1, 1, 1, 2]),
         k: random.bytes(),
         opc: random.bytes(),
-    });
-    card.places = [(); PLACES].map(|()| random.draw() % 50);
+    };
+    let mut card = Card::new(1, subscriber);
+    card.places = EDITION_1.places(|_| random.draw() % 50);
     card
 }
 
 /// A challenge of right or of wrong MAC, fresh or stale, to a card like this.
 fn any_challenge(card: &Card, random: &mut Random) -> ([u8; RAND], [u8; AUTN]) {
     let rand = random.bytes();
-    let sqn = sqn(random.draw() % 100, random.below(PLACES));
+    let sqn = EDITION_1.sqn(random.draw() % 100, random.below(PLACES));
     let right = card.subscriber.autn(&rand, &sqn_bytes(sqn), &[0, 0]);
     match random.below(3) {
         0 => (rand, random.bytes()),

@@ -78,9 +78,12 @@ fn an_image_is_read_first_and_refused_alone() {
     let (good, stored) = (image(1), stored());
     for (image, refused) in [
         ("-", "refused 3"),
-        (&good[2..], "refused 3"),
+        ("00", "refused 1"),
+        (&good[..408], "refused 3"),
+        (&good[2..], "refused 1"),
         (&format!("{good}00"), "refused 3"),
-        (&good.replacen("10", "20", 1), "refused 1"),
+        (&good.replacen("10", "20", 1), "refused 3"),
+        (&good.replacen("10", "30", 1), "refused 1"),
         (&good.replacen("10", "00", 1), "refused 1"),
         (&good.replacen("10", "12", 1), "refused 1"),
     ] {

@@ -1,17 +1,23 @@
 //! The packed image: its layout, both round trips and the refusals.
 
 use reference::call_lines::random_card;
+use reference::editions::EDITION_1;
 use reference::functions::Subscriber;
-use reference::image::{image, read, write, LENGTH};
+use reference::image::{image, read, write};
 use reference::random::Random;
-use reference::usim::{Card, Refusal, PLACES, SEQ_LIMIT};
+use reference::usim::{Card, Refusal};
+
+const LENGTH: usize = 205;
+const PLACES: usize = 32;
+const SEQ_LIMIT: u64 = 8_796_093_022_207;
 
 fn card(set: u8) -> Card {
-    Card::new(Subscriber {
+    let subscriber = Subscriber {
         set,
         k: std::array::from_fn(|i| i as u8),
         opc: std::array::from_fn(|i| 0xf0 + i as u8),
-    })
+    };
+    Card::new(1, subscriber)
 }
 
 #[test]
@@ -33,7 +39,7 @@ fn the_layout_of_a_made_up_card() {
     expected.extend([0xaa, 0xaa, 0xaa, 0xaa, 0xaa, 0b1010_0000]);
     expected.resize(204, 0);
     expected.push(2);
-    assert_eq!(image(&card).unwrap().to_vec(), expected);
+    assert_eq!(image(&card).unwrap(), expected);
     assert_eq!(read(&expected), Ok(card));
 }
 
@@ -44,11 +50,11 @@ fn each_bit_of_each_place_has_its_bit_in_the_image() {
         for bit in 0..43 {
             let mut card = card(0);
             card.places[ind] = 1 << bit;
-            let mut expected = zeros;
+            let mut expected = zeros.clone();
             let at = 8 + 256 + 43 * ind + (42 - bit);
             expected[at / 8] ^= 0x80 >> (at % 8);
+            assert_eq!(read(&expected), Ok(card.clone()));
             assert_eq!(image(&card), Ok(expected));
-            assert_eq!(read(&expected), Ok(card));
         }
     }
 }
@@ -57,7 +63,7 @@ fn each_bit_of_each_place_has_its_bit_in_the_image() {
 fn reading_what_was_written_gives_the_card() {
     let mut random = Random::new(205);
     for turn in 0..250 {
-        let card = random_card(turn % 2, &mut random);
+        let card = random_card(&EDITION_1, turn % 2, &mut random);
         assert_eq!(read(&image(&card).unwrap()), Ok(card));
     }
 }
@@ -75,24 +81,26 @@ fn writing_what_was_read_gives_the_bytes() {
 }
 
 #[test]
-fn only_edition_1_of_a_known_set_is_read() {
+fn of_this_length_only_edition_1_of_a_known_set_is_read() {
     let mut bytes = image(&card(0)).unwrap();
     for first in 0..=255 {
         bytes[0] = first;
         match first {
             0x10 | 0x11 => assert_eq!(read(&bytes), Ok(card(first & 15))),
+            0x20..=0x2f => assert_eq!(read(&bytes), Err(Refusal(3))),
             _ => assert_eq!(read(&bytes), Err(Refusal(1))),
         }
     }
 }
 
 #[test]
-fn other_lengths_are_not_looked_at() {
-    for first in [0x10, 0x00] {
-        let mut bytes = [image(&card(0)).unwrap(); 2].concat();
+fn an_unknown_edition_comes_before_another_length() {
+    for (first, number) in [(0x10, 3), (0x12, 3), (0x00, 1), (0x30, 1), (0xff, 1)] {
+        let mut bytes = image(&card(0)).unwrap().repeat(2);
         bytes[0] = first;
-        for length in (0..=410).filter(|&n| n != LENGTH) {
-            assert_eq!(read(&bytes[..length]), Err(Refusal(3)));
+        assert_eq!(read(&[]), Err(Refusal(3)));
+        for length in (1..=410).filter(|&n| n != LENGTH) {
+            assert_eq!(read(&bytes[..length]), Err(Refusal(number)));
         }
     }
 }

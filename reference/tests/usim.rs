@@ -1,14 +1,28 @@
-//! The card against the worked table, the sample run and its own edges.
+//! The card against the worked table, the sample run and its own edges, in
+//! edition 1.
 
+use reference::editions::EDITION_1;
 use reference::functions::Subscriber;
 use reference::published;
 use reference::text::{read_hex, write_hex};
-use reference::usim::{
-    ind, seq, sqn, sqn_bytes, Answer, Card, Refusal, Verdict, D, PLACES, SEQ_LIMIT,
-};
+use reference::usim::{sqn_bytes, Answer, Card, Refusal, Verdict, D};
 
 const RAND: [u8; 16] = [0x5a; 16];
 const AMF: [u8; 2] = [0x80, 1];
+const PLACES: usize = 32;
+const SEQ_LIMIT: u64 = 8_796_093_022_207;
+
+fn sqn(seq: u64, ind: usize) -> u64 {
+    EDITION_1.sqn(seq, ind)
+}
+
+fn seq(sqn: u64) -> u64 {
+    EDITION_1.seq(sqn)
+}
+
+fn ind(sqn: u64) -> usize {
+    EDITION_1.ind(sqn)
+}
 
 fn hex<const N: usize>(digits: &str) -> [u8; N] {
     read_hex(digits.as_bytes()).expect("hex of this length")
@@ -23,7 +37,7 @@ fn subscriber(set: u8) -> Subscriber {
 }
 
 fn card(set: u8, places: &[(usize, u64)]) -> Card {
-    let mut card = Card::new(subscriber(set));
+    let mut card = Card::new(1, subscriber(set));
     for &(ind, seq) in places {
         card.places[ind] = seq;
     }
@@ -111,7 +125,7 @@ fn the_sample_run() {
     subscriber.opc = [0; 16];
     let autn = subscriber.autn(&[0; 16], &sqn_bytes(32), &[0, 1]).unwrap();
     assert_eq!(write_hex(&autn), b"03040506072800010001020304250606");
-    let new = Card::new(subscriber);
+    let new = Card::new(1, subscriber);
     let first = new.challenge(&[0; 16], &autn);
     let mut used = new.clone();
     used.places[0] = 1;
@@ -132,11 +146,14 @@ fn the_sample_run() {
 #[test]
 fn the_published_sets_are_accepted() {
     for v in published::milenage() {
-        let mut card = Card::new(Subscriber {
-            set: 1,
-            k: hex(v.k),
-            opc: hex(v.opc),
-        });
+        let mut card = Card::new(
+            1,
+            Subscriber {
+                set: 1,
+                k: hex(v.k),
+                opc: hex(v.opc),
+            },
+        );
         let sqn = u64::from_str_radix(v.sqn, 16).unwrap();
         card.places[ind(sqn)] = seq(sqn) - 1;
         let concealed: [u8; 6] = std::array::from_fn(|i| hex::<6>(v.sqn)[i] ^ hex::<6>(v.f5)[i]);
@@ -157,7 +174,7 @@ fn the_published_sets_are_accepted() {
 fn one_place_is_replaced_on_acceptance() {
     for set in [0, 1] {
         let mut card = card(set, &[]);
-        card.places = std::array::from_fn(|ind| 100 + ind as u64);
+        card.places = EDITION_1.places(|ind| 100 + ind as u64);
         for ind in 0..PLACES {
             let answer = ask(&card, 200, ind);
             let mut next = card.clone();
@@ -220,7 +237,7 @@ fn a_wrong_mac_tells_nothing_about_the_places() {
     for set in [0, 1] {
         let fresh = card(set, &[(3, 10)]);
         let mut stale = fresh.clone();
-        stale.places = [SEQ_LIMIT; PLACES];
+        stale.places = EDITION_1.places(|_| SEQ_LIMIT);
         let right = autn(&fresh, 11, 3);
         for place in 0..16 {
             for bit in 0..8 {

@@ -10,7 +10,7 @@ use lib.Pow.{pow-pos}
 use Rattle.octets.specs.Octets.{Octets}
 use Rattle.aka.specs.Layout.{partFrom}
 use Rattle.aka.specs.Functions.{Keys, Family}
-use Rattle.aka.specs.Sequence.{indices, limit}
+use Rattle.aka.specs.Sequence.{Scheme, widthOf, indices, limit}
 use Rattle.aka.specs.Auc.{newAuc, validAuc, unlessRefused, orderOutcome, order, resyncOutcome, resync}
 use Rattle.aka.specs.AucLaws.{AucPromise}
 use Rattle.aka.proofs.Outcomes.{in-range-iff, valid-iff}
@@ -19,22 +19,24 @@ use Rattle.aka.proofs.Offsets.{at-offset, no-offset}
 use Rattle.aka.proofs.OrderLaws.{order-laws}
 use Rattle.aka.proofs.ResyncLaws.{resync-laws}
 
-valid-new : (w : ℕ) (family : Family) (keys : Keys) (amf : Octets) → family .known (keys .set) ≡ true
-    → validAuc w family (newAuc keys amf) ≡ true
+valid-new : (scheme : Scheme) (family : Family) (edition : ℕ) (keys : Keys) (amf : Octets) → family .admits edition keys ≡ true
+    → validAuc scheme family (newAuc edition keys amf) ≡ true
 unfolding validAuc
-valid-new w family keys amf known = rw (known, le-leb 0 (limit w) (omega arith), lt-ltb 0 (indices w) (pow-pos w))
+valid-new scheme family edition keys amf admitted =
+    let w = widthOf scheme edition in
+    rw (admitted, le-leb 0 (limit w) (omega arith), lt-ltb 0 (indices w) (pow-pos w))
 
 -- ---- all of it
 
-pub auc-promise : (w : ℕ) (family : Family) → AucPromise w family
+pub auc-promise : (scheme : Scheme) (family : Family) → AucPromise scheme family
 unfolding order orderOutcome resync resyncOutcome unlessRefused
-auc-promise w family = record {
-  orders = order-laws w family;
-  resyncs = resync-laws w family;
+auc-promise scheme family = record {
+  orders = order-laws scheme family;
+  resyncs = resync-laws scheme family;
   default-order = λ auc rands buffer. refl;
   default-resync = λ auc rands buffer rand auts. refl;
-  valid = valid-iff w family;
-  new-valid = valid-new w family;
+  valid = valid-iff scheme family;
+  new-valid = valid-new scheme family;
   range = in-range-iff;
   pair = earliest;
   no-pair = all-unequal;

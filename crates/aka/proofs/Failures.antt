@@ -6,15 +6,18 @@ use lib.ListN.{length}
 use Rattle.octets.specs.Octets.{Octets, encode}
 use Rattle.aka.specs.Layout.{randSize, sqnSize, autsSize}
 use Rattle.aka.specs.Functions.{Functions, Family, Lengths, dummyAmf}
-use Rattle.aka.specs.Sequence.{indices, limit}
-use Rattle.aka.specs.Usim.{Usim, validUsim, seqMs, sqnMs, makeAuts}
+use Rattle.aka.specs.Sequence.{Scheme, Fitting, widthOf, indices, limit}
+use Rattle.aka.specs.Usim.{Usim, UsimShaped, validUsim, seqMs, sqnMs, makeAuts}
 use Rattle.aka.specs.Auc.{macSRight, seqMsIn}
 use Rattle.aka.proofs.Places.{within, sqn-ms, sqn-ms-fits}
 use Rattle.aka.proofs.Tokens.{length-sqn, auts-length, auts-mac, auts-seq}
 use Rattle.aka.proofs.Verdicts.{valid-parts}
 
-module _ (w : ℕ) (hw : w ≤ 48) (family : Family) (usim : Usim) (L : Lengths (family .under (usim .keys)))
-    (valid : validUsim w family usim ≡ true) (size : length (usim .places) ≡ indices w) (rand : Octets) (hr : length rand ≡ randSize) where
+module _ (scheme : Scheme) (fits : Fitting scheme) (family : Family) (usim : Usim) (L : Lengths (family .under (usim .keys)))
+    (valid : validUsim scheme family usim ≡ true) (shaped : UsimShaped scheme usim) (rand : Octets) (hr : length rand ≡ randSize) where
+  abbrev w : ℕ
+  w = widthOf scheme (usim .edition)
+
   abbrev G : Functions
   G = family .under (usim .keys)
 
@@ -29,5 +32,8 @@ module _ (w : ℕ) (hw : w ≤ 48) (family : Family) (usim : Usim) (L : Lengths 
 
   pub auts-has : seqMsIn w G rand autsOf ≡ seqMs usim
   auts-has =
-      let small : seqMs usim ≤ limit w = within (limit w) (usim .places) (valid-parts w family usim valid .1) in
-      auts-seq w G L (sqnMs w usim) (sqn-ms-fits w hw usim size small) dummyAmf rand refl hr ∙ sqn-ms w usim size .seq
+      let parts = valid-parts scheme family usim valid in
+      let small : seqMs usim ≤ limit w = within (limit w) (usim .places) (parts .1) in
+      let long : indices w ≤ length (usim .places) = rw (shaped .places) (fits .places (usim .edition)) in
+      auts-seq w G L (sqnMs w usim) (sqn-ms-fits w (fits .width (usim .edition)) usim long (parts .2) small) dummyAmf rand refl hr
+      ∙ sqn-ms w usim long (parts .2) .seq

@@ -11,6 +11,7 @@ use Rattle.octets.proofs.Absurd.{zero-not-one}
 use Rattle.octets.proofs.Parts.{front, past, whole}
 use Rattle.aka.specs.Layout.{randSize, autnSize, autsSize, resSize, ckSize, ikSize, answerSize, writeAnswer, storeSize}
 use Rattle.aka.specs.Functions.{Family, Lengths, Lawful, Shaped}
+use Rattle.aka.specs.Sequence.{Scheme}
 use Rattle.aka.specs.Usim.{Usim, UsimAnswer, challenge}
 use Rattle.aka.specs.Usim as card
 use Rattle.aka.specs.Handset.{Store, holding, repeats, answerIn, Outcome, handedOn, HandsetAnswer, partsRight, nothingShown}
@@ -85,20 +86,20 @@ module _ (usim : Usim) (store : Store) (rand fresh : Octets) (o : Outcome) (auts
       go true e = rw (e, none (repeats store rand), stays) refl
       go false e = rw e refl
 
-module _ (w : ℕ) (family : Family) (usim : Usim) (store : Store) (rand autn fresh : Octets) where
+module _ (scheme : Scheme) (family : Family) (usim : Usim) (store : Store) (rand autn fresh : Octets) where
   abbrev answer : HandsetAnswer
-  answer = challenged w family usim store rand autn fresh
+  answer = challenged scheme family usim store rand autn fresh
 
   abbrev asked : UsimAnswer
-  asked = challenge w family usim rand autn
+  asked = challenge scheme family usim rand autn
 
   abbrev fit : Bool
   fit = partsRight store rand fresh && eqb (length autn) autnSize
 
   abbrev outcome : Outcome
-  outcome = outcomeOn w family usim store rand autn fresh
+  outcome = outcomeOn scheme family usim store rand autn fresh
 
-  outcome-with : (o : Outcome) → answerWith w family usim store rand autn fresh o .outcome ≡ o
+  outcome-with : (o : Outcome) → answerWith scheme family usim store rand autn fresh o .outcome ≡ o
   unfolding answerWith
   outcome-with repeated = refl
   outcome-with accepted = refl
@@ -110,9 +111,9 @@ module _ (w : ℕ) (family : Family) (usim : Usim) (store : Store) (rand autn fr
   unfolding challenged
   outcome-is = outcome-with outcome
 
-  pub answer-of : (o : Outcome) → answer .outcome ≡ o → answer ≡ answerWith w family usim store rand autn fresh o
+  pub answer-of : (o : Outcome) → answer .outcome ≡ o → answer ≡ answerWith scheme family usim store rand autn fresh o
   unfolding challenged
-  answer-of o e = ap (answerWith w family usim store rand autn fresh) (sym outcome-is ∙ e)
+  answer-of o e = ap (answerWith scheme family usim store rand autn fresh) (sym outcome-is ∙ e)
 
   -- another length: refusal 3, whatever else there is
   pub wrong-length : fit ≡ false → answer ≡ nothingShown usim store fresh (refused 3) (zeros autsSize)
@@ -120,7 +121,7 @@ module _ (w : ℕ) (family : Family) (usim : Usim) (store : Store) (rand autn fr
   wrong-length bad = answer-of (refused 3) (outcome-is ∙ rw bad)
 
   -- the stored RAND: the card is not asked
-  pub repeats-it : fit ≡ true → repeats store rand ≡ true → answer ≡ answerWith w family usim store rand autn fresh repeated
+  pub repeats-it : fit ≡ true → repeats store rand ≡ true → answer ≡ answerWith scheme family usim store rand autn fresh repeated
   unfolding outcomeOn
   repeats-it right same = answer-of repeated (outcome-is ∙ rw (right, same))
 
@@ -165,18 +166,18 @@ module _ (w : ℕ) (family : Family) (usim : Usim) (store : Store) (rand autn fr
     pub length-given : asked .verdict ≡ card.accepted → length given ≡ answerSize
     unfolding card.answerWith
     length-given e =
-        let tests = known.accepted-tests w family usim rand autn e in
+        let tests = known.accepted-tests scheme family usim rand autn e in
         let hr = known.lengths-known rand autn (tests .1) .0 in
-        let known-set = known.valid-parts w family usim (tests .0) .0 in
-        let L : Lengths (family .under (usim .keys)) = lawful .lengths (usim .keys) known-set shaped in
-        rw (known.answer-of w family usim rand autn card.accepted e)
+        let admitted = known.valid-parts scheme family usim (tests .0) .0 in
+        let L : Lengths (family .under (usim .keys)) = lawful .lengths (usim .edition) (usim .keys) admitted shaped in
+        rw (known.answer-of scheme family usim rand autn card.accepted e)
         (length-answer _ _ _ (L .f2 rand hr) (L .f3 rand hr) (L .f4 rand hr))
 
     -- ---- the three calls, one after the other, make the whole answer
 
     abbrev whole-order : Outcome → Type 0
     whole-order o =
-        inOrder (told (answerWith w family usim store rand autn fresh o)) store rand ≡ answerWith w family usim store rand autn fresh o
+        inOrder (told (answerWith scheme family usim store rand autn fresh o)) store rand ≡ answerWith scheme family usim store rand autn fresh o
 
     with-order : (o : Outcome) → outcome ≡ o → whole-order o
     unfolding answerWith source keep

@@ -11,6 +11,7 @@ use Rattle.octets.specs.Octets.{Octets, zeros, part}
 use Rattle.octets.proofs.Strings.{equal-true, equal-self}
 use Rattle.aka.specs.Layout.{autnSize, autsSize, writeAnswer}
 use Rattle.aka.specs.Functions.{Family}
+use Rattle.aka.specs.Sequence.{Scheme}
 use Rattle.aka.specs.Usim.{Usim, challenge}
 use Rattle.aka.specs.Usim as card
 use Rattle.aka.specs.Handset.{Store, repeats, Outcome, refusalOf, handedOn, HandsetAnswer, partsRight, nothingShown}
@@ -43,17 +44,17 @@ module _ (store : Store) (rand autn fresh : Octets) where
 
 -- ---- one challenge
 
-module _ (w : ℕ) (family : Family) (usim : Usim) (store : Store) (rand autn fresh : Octets) where
+module _ (scheme : Scheme) (family : Family) (usim : Usim) (store : Store) (rand autn fresh : Octets) where
   abbrev answer : HandsetAnswer
-  answer = challenged w family usim store rand autn fresh
+  answer = challenged scheme family usim store rand autn fresh
 
   abbrev with : Outcome → HandsetAnswer
-  with o = answerWith w family usim store rand autn fresh o
+  with o = answerWith scheme family usim store rand autn fresh o
 
   is : (o : Outcome) → answer .outcome ≡ o → answer ≡ with o
-  is = known.answer-of w family usim store rand autn fresh
+  is = known.answer-of scheme family usim store rand autn fresh
 
-  taken : answer .outcome ≡ accepted → Taken w family usim store rand autn fresh
+  taken : answer .outcome ≡ accepted → Taken scheme family usim store rand autn fresh
   unfolding answerWith writeAnswer
   taken e =
       let a = is accepted e in
@@ -82,14 +83,14 @@ module _ (w : ℕ) (family : Family) (usim : Usim) (store : Store) (rand autn fr
   no-auts (refused number) e h = ap (λ (x : HandsetAnswer). x .auts) (is (refused number) e)
 
   stays : (a : HandsetAnswer) → answer ≡ a → (a .usim ≡ usim) × (a .store ≡ store) × (a .fresh ≡ fresh)
-      → Unchanged w family usim store rand autn fresh
+      → Unchanged scheme family usim store rand autn fresh
   stays a e same = record {
     usim-stays = ap (λ (x : HandsetAnswer). x .usim) e ∙ same .0;
     store-stays = ap (λ (x : HandsetAnswer). x .store) e ∙ same .1;
     fresh-stays = ap (λ (x : HandsetAnswer). x .fresh) e ∙ same .2;
   }
 
-  unchanged : (o : Outcome) → answer .outcome ≡ o → (o ≡ accepted → ⊥) → Unchanged w family usim store rand autn fresh
+  unchanged : (o : Outcome) → answer .outcome ≡ o → (o ≡ accepted → ⊥) → Unchanged scheme family usim store rand autn fresh
   unfolding answerWith
   unchanged repeated e h = stays _ (is repeated e) (refl, refl, refl)
   unchanged accepted e h = absurd (h refl)
@@ -104,21 +105,21 @@ module _ (w : ℕ) (family : Family) (usim : Usim) (store : Store) (rand autn fr
   handed-number (card.refused number) = refl
 
   wrong : (LengthsNamed store rand autn fresh → ⊥) → answer ≡ nothingShown usim store fresh (refused 3) (zeros autsSize)
-  wrong h = known.wrong-length w family usim store rand autn fresh (not-fit store rand autn fresh h)
+  wrong h = known.wrong-length scheme family usim store rand autn fresh (not-fit store rand autn fresh h)
 
   asks : LengthsNamed store rand autn fresh → repeats store rand ≡ false
-      → answer .outcome ≡ handedOn (challenge w family usim rand autn .verdict)
-  asks n other = known.asks-card w family usim store rand autn fresh (fits store rand autn fresh n) other
+      → answer .outcome ≡ handedOn (challenge scheme family usim rand autn .verdict)
+  asks n other = known.asks-card scheme family usim store rand autn fresh (fits store rand autn fresh n) other
 
-  laws : HandsetLaws w family usim store rand autn fresh
+  laws : HandsetLaws scheme family usim store rand autn fresh
   unfolding answerWith
   laws = record {
     refusal3 = wrong;
     number3 = λ h. ap (λ (x : HandsetAnswer). refusalOf (x .outcome)) (wrong h);
     number0 = λ e. ap refusalOf e;
-    number = λ n other. ap refusalOf (asks n other) ∙ handed-number (challenge w family usim rand autn .verdict);
+    number = λ n other. ap refusalOf (asks n other) ∙ handed-number (challenge scheme family usim rand autn .verdict);
     same = λ n same. ap (λ (x : HandsetAnswer). x .outcome)
-        (known.repeats-it w family usim store rand autn fresh (fits store rand autn fresh n) same);
+        (known.repeats-it scheme family usim store rand autn fresh (fits store rand autn fresh n) same);
     other = asks;
     taken = taken;
     repeated-shown = λ e. ap (λ (x : HandsetAnswer). x .shown) (is repeated e);
@@ -147,12 +148,12 @@ clear-refusal3 : (store : Store) → (length (store .octets) ≡ 56 → ⊥) →
 unfolding clear
 clear-refusal3 store h = rw (ne-eqb (length (store .octets)) 56 h)
 
-pub handset-promise : (w : ℕ) (family : Family) → HandsetPromise w family
-handset-promise w family = record {
-  laws = laws w family;
+pub handset-promise : (scheme : Scheme) (family : Family) → HandsetPromise scheme family
+handset-promise scheme family = record {
+  laws = laws scheme family;
   unheld = unheld;
   held = held;
   clears = clears;
   clear-refusal3 = clear-refusal3;
-  in-order = λ lawful usim shaped store rand autn fresh. known.in-order w family usim store rand autn fresh lawful shaped;
+  in-order = λ lawful usim shaped store rand autn fresh. known.in-order scheme family usim store rand autn fresh lawful shaped;
 }

@@ -43,6 +43,11 @@ zero-drop zero a h = h
 zero-drop (suc n) [] h = h
 zero-drop (suc n) (x ∷ a) h = zero-drop n a (and-eq-true-iff (eqb x 0) (allZero a) .0 h .1)
 
+pub drop-zeros : (n m : ℕ) → drop n (zeros m) ≡ zeros (m - n)
+drop-zeros n m =
+    zeros-are (drop n (zeros m)) (zero-drop n (zeros m) (all-zeros m))
+    ∙ ap zeros (length-drop n (zeros m) ∙ ap (λ (k : ℕ). k - n) (length-zeros m))
+
 pub zero-each : (a : Octets) → allZero a ≡ true → (i : ℕ) → getD a i 0 ≡ 0
 unfolding allZero
 zero-each [] h i = refl

@@ -1,6 +1,7 @@
 pub mod Lists
 pub mod Layouts
 pub mod Sequence
+pub mod Editions
 pub mod Places
 pub mod Tokens
 pub mod Verdicts
@@ -24,6 +25,7 @@ pub mod OrderOfUse
 pub mod VlrWitnesses
 pub mod Triplets
 pub mod ShutOut
+pub mod Runs
 pub mod Rising
 pub mod Demand3
 pub mod Handset

@@ -10,7 +10,7 @@ use lib.ListN.{length}
 use Rattle.octets.specs.Octets.{Octets}
 use Rattle.aka.specs.Layout.{randSize, autsSize, vectorSize, mostVectors}
 use Rattle.aka.specs.Functions.{Functions, Family}
-use Rattle.aka.specs.Sequence.{D, indices, limit}
+use Rattle.aka.specs.Sequence.{D, Scheme, widthOf, indices, limit}
 use Rattle.aka.specs.AucLaws.{Range}
 use Rattle.aka.specs.Auc.{Auc, AucAnswer, Pair, unequal, equalAt, Outcome, given, kept, reset, refused, repeated, refusalOf}
 use Rattle.aka.specs.Auc.{validAuc, orderCount, resyncCount, equalPair, lentFor, lentAuts, inRange, keptOrReset, macSRight, seqMsIn}
@@ -55,15 +55,15 @@ lent-auts-iff rand auts = both-iff rand randSize auts autsSize
 
 -- ---- the answer that goes with an outcome
 
-module _ (w : ℕ) (family : Family) (auc : Auc) (from : ℕ) (rands : Octets) (n : ℕ) (buffer : Octets) where
+module _ (scheme : Scheme) (family : Family) (auc : Auc) (from : ℕ) (rands : Octets) (n : ℕ) (buffer : Octets) where
   abbrev answered : Outcome → AucAnswer
-  answered o = answerWith w family auc from rands n buffer o
+  answered o = answerWith scheme family auc from rands n buffer o
 
-  pub answer-given : (o : Outcome) → refusalOf o ≡ 0 → answered o ≡ givenWith w family auc from rands n o
+  pub answer-given : (o : Outcome) → refusalOf o ≡ 0 → answered o ≡ givenWith scheme family auc from rands n o
   unfolding answerWith
   answer-given o e = rw e
 
-  pub answer-refused : (o : Outcome) → eqb (refusalOf o) 0 ≡ false → answered o ≡ refusedWith w family auc buffer o
+  pub answer-refused : (o : Outcome) → eqb (refusalOf o) 0 ≡ false → answered o ≡ refusedWith scheme family auc buffer o
   unfolding answerWith
   answer-refused o e = rw e
 
@@ -80,14 +80,17 @@ pub told-batch : (b : Bool) → refusalOf (cond b kept reset) ≡ 0
 told-batch true = refl
 told-batch false = refl
 
-module _ (w : ℕ) (family : Family) (auc : Auc) where
-  pub valid-iff : (validAuc w family auc ≡ true)
-      ↔ ((family .known (auc .keys .set) ≡ true) × (auc .seqhe ≤ limit w) × (auc .next < indices w))
+module _ (scheme : Scheme) (family : Family) (auc : Auc) where
+  abbrev w : ℕ
+  w = widthOf scheme (auc .edition)
+
+  pub valid-iff : (validAuc scheme family auc ≡ true)
+      ↔ ((family .admits (auc .edition) (auc .keys) ≡ true) × (auc .seqhe ≤ limit w) × (auc .next < indices w))
   unfolding validAuc
   valid-iff = (
     λ e.
-        let all = and-eq-true-iff (family .known (auc .keys .set) && leb (auc .seqhe) (limit w)) (ltb (auc .next) (indices w)) .0 e in
-        let two = and-eq-true-iff (family .known (auc .keys .set)) (leb (auc .seqhe) (limit w)) .0 (all .0) in
+        let all = and-eq-true-iff (family .admits (auc .edition) (auc .keys) && leb (auc .seqhe) (limit w)) (ltb (auc .next) (indices w)) .0 e in
+        let two = and-eq-true-iff (family .admits (auc .edition) (auc .keys)) (leb (auc .seqhe) (limit w)) .0 (all .0) in
         (two .0, leb-true (auc .seqhe) (limit w) (two .1), ltb-true (auc .next) (indices w) (all .1)),
     λ h. rw (h .0, le-leb (auc .seqhe) (limit w) (h .1), lt-ltb (auc .next) (indices w) (h .2)),
   )
@@ -95,17 +98,17 @@ module _ (w : ℕ) (family : Family) (auc : Auc) where
   -- refusals 1 to 4, the lowest that applies
   module _ (count n : ℕ) (lent : Bool) (rands : Octets) where
     abbrev chain : Outcome → Outcome
-    chain rest = unlessRefused w family auc count n lent rands rest
+    chain rest = unlessRefused scheme family auc count n lent rands rest
 
-    pub refusal-1 : (rest : Outcome) → validAuc w family auc ≡ false → chain rest ≡ refused 1
+    pub refusal-1 : (rest : Outcome) → validAuc scheme family auc ≡ false → chain rest ≡ refused 1
     unfolding unlessRefused
     refusal-1 rest bad = rw bad
 
-    pub refusal-2 : (rest : Outcome) → validAuc w family auc ≡ true → mostVectors < count → chain rest ≡ refused 2
+    pub refusal-2 : (rest : Outcome) → validAuc scheme family auc ≡ true → mostVectors < count → chain rest ≡ refused 2
     unfolding unlessRefused
     refusal-2 rest valid many = rw (valid, lt-ltb mostVectors count many)
 
-    module _ (rest : Outcome) (valid : validAuc w family auc ≡ true) (small : count ≤ mostVectors) where
+    module _ (rest : Outcome) (valid : validAuc scheme family auc ≡ true) (small : count ≤ mostVectors) where
       pub refusal-3 : lent ≡ false → chain rest ≡ refused 3
       unfolding unlessRefused
       refusal-3 other = rw (valid, le-ltb mostVectors count small, other)
@@ -120,17 +123,17 @@ module _ (w : ℕ) (family : Family) (auc : Auc) where
 
     -- none of them applies
     pub record Passes : Type 0 where
-      pub valid : validAuc w family auc ≡ true
+      pub valid : validAuc scheme family auc ≡ true
       pub small : count ≤ mostVectors
       pub named : lent ≡ true
       pub unequal-rands : equalPair rands n ≡ unequal
 
     pub passes : (rest : Outcome) → refusalOf (chain rest) ≡ 0 → Passes
     unfolding unlessRefused
-    passes rest e = go (validAuc w family auc) (ltb mostVectors count) lent (equalPair rands n) refl refl refl refl e
+    passes rest e = go (validAuc scheme family auc) (ltb mostVectors count) lent (equalPair rands n) refl refl refl refl e
       where
         go : (v many named : Bool) (pair : Pair)
-            → validAuc w family auc ≡ v → ltb mostVectors count ≡ many → lent ≡ named → equalPair rands n ≡ pair
+            → validAuc scheme family auc ≡ v → ltb mostVectors count ≡ many → lent ≡ named → equalPair rands n ≡ pair
             → refusalOf (cond (not v) (refused 1) (cond many (refused 2) (cond (not named) (refused 3) (unlessRepeated pair rest)))) ≡ 0
             → Passes
         go false many named pair a b c d z = absurd (omega arith)
@@ -142,11 +145,11 @@ module _ (w : ℕ) (family : Family) (auc : Auc) where
     pub passes-on : Passes → (rest : Outcome) → chain rest ≡ rest
     passes-on p rest = not-refused rest (p .valid) (p .small) (p .named) (p .unequal-rands)
 
-  pub is-past : (from n : ℕ) (rest : Outcome) → limit w < from + n → unlessPast w family auc from n rest ≡ refused 6
+  pub is-past : (from n : ℕ) (rest : Outcome) → limit w < from + n → unlessPast scheme family auc from n rest ≡ refused 6
   unfolding unlessPast
   is-past from n rest h = rw (lt-ltb (limit w) (from + n) h)
 
-  pub not-past : (from n : ℕ) (rest : Outcome) → from + n ≤ limit w → unlessPast w family auc from n rest ≡ rest
+  pub not-past : (from n : ℕ) (rest : Outcome) → from + n ≤ limit w → unlessPast scheme family auc from n rest ≡ rest
   unfolding unlessPast
   not-past from n rest h = rw (le-ltb (limit w) (from + n) h)
 
@@ -160,39 +163,39 @@ module _ (w : ℕ) (family : Family) (auc : Auc) where
     range = inRange (auc .seqhe) (seqMsIn w F rand auts) n
 
     abbrev from : ℕ
-    from = resyncFrom w family auc rand auts n
+    from = resyncFrom scheme family auc rand auts n
 
-    pub auts-five : (not range && not (macSRight F rand auts)) ≡ true → autsOutcome w family auc rand auts n ≡ refused 5
+    pub auts-five : (not range && not (macSRight F rand auts)) ≡ true → autsOutcome scheme family auc rand auts n ≡ refused 5
     unfolding autsOutcome
     auts-five wrong = rw wrong
 
     pub auts-on : (not range && not (macSRight F rand auts)) ≡ false
-        → autsOutcome w family auc rand auts n ≡ unlessPast w family auc from n (cond range kept reset)
+        → autsOutcome scheme family auc rand auts n ≡ unlessPast scheme family auc from n (cond range kept reset)
     unfolding autsOutcome
     auts-on right = rw right
 
   -- ---- when no refusal applies
 
-  module _ (count : ℕ) (rands buffer : Octets) (valid : validAuc w family auc ≡ true) (small : count ≤ mostVectors) where
+  module _ (count : ℕ) (rands buffer : Octets) (valid : validAuc scheme family auc ≡ true) (small : count ≤ mostVectors) where
     module _ (hr : length rands ≡ randSize * orderCount count) (hb : length buffer ≡ vectorSize * orderCount count)
         (pair : equalPair rands (orderCount count) ≡ unequal) where
       abbrev N : ℕ
       N = orderCount count
 
-      order-outcome : orderOutcome w family auc count rands buffer ≡ unlessPast w family auc (auc .seqhe) N given
+      order-outcome : orderOutcome scheme family auc count rands buffer ≡ unlessPast scheme family auc (auc .seqhe) N given
       unfolding orderOutcome
       order-outcome =
           let named = lent-iff N (length rands) (length buffer) .1 (hr, hb) in
-          let six = unlessPast w family auc (auc .seqhe) N given in
+          let six = unlessPast scheme family auc (auc .seqhe) N given in
           not-refused count N (lentFor N (length rands) (length buffer)) rands six valid small named pair
 
       -- a batch is given
-      pub order-given : auc .seqhe + N ≤ limit w → order w family auc count rands buffer ≡ givenWith w family auc (auc .seqhe) rands N given
+      pub order-given : auc .seqhe + N ≤ limit w → order scheme family auc count rands buffer ≡ givenWith scheme family auc (auc .seqhe) rands N given
       unfolding order answerWith
       order-given room = rw (order-outcome, not-past (auc .seqhe) N given room)
 
       -- the last SEQ would pass the limit
-      pub order-past : limit w < auc .seqhe + N → order w family auc count rands buffer .outcome ≡ refused 6
+      pub order-past : limit w < auc .seqhe + N → order scheme family auc count rands buffer .outcome ≡ refused 6
       unfolding order answerWith
       order-past past = rw (order-outcome, is-past (auc .seqhe) N given past)
 
@@ -208,14 +211,14 @@ module _ (w : ℕ) (family : Family) (auc : Auc) where
       abbrev told : Outcome
       told = cond (range rand auts n) kept reset
 
-      resync-outcome : resyncOutcome w family auc count rands buffer rand auts ≡ told
+      resync-outcome : resyncOutcome scheme family auc count rands buffer rand auts ≡ told
       unfolding resyncOutcome
       resync-outcome =
           rw (lent-iff n (length rands) (length buffer) .1 (hr, hb), lent-auts-iff (length rand) (length auts) .1 (hrand, hauts))
-          (not-refused count n true rands (autsOutcome w family auc rand auts n) valid small refl pair
+          (not-refused count n true rands (autsOutcome scheme family auc rand auts n) valid small refl pair
           ∙ auts-on rand auts n (not-five (range rand auts n) (macSRight (family .under (auc .keys)) rand auts) right)
           ∙ not-past (from rand auts n) n told room)
 
-      pub resync-given : resync w family auc count rands buffer rand auts ≡ givenWith w family auc (from rand auts n) rands n told
+      pub resync-given : resync scheme family auc count rands buffer rand auts ≡ givenWith scheme family auc (from rand auts n) rands n told
       unfolding resync
-      resync-given = rw resync-outcome (answer-given w family auc (from rand auts n) rands n buffer told (told-batch (range rand auts n)))
+      resync-given = rw resync-outcome (answer-given scheme family auc (from rand auts n) rands n buffer told (told-batch (range rand auts n)))

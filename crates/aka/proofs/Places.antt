@@ -1,20 +1,23 @@
 -- Laws of the places of a USIM: the highest, the lowest index that holds it, one place replaced. Assumes nothing.
 use Prim.Native.Nat.{ℕ, zero, suc, _-_, _^_, _≤_, _<_}
 use mathlib.Core.Bool.{Bool, true, false, _&&_, cond, and-eq-true-iff}
-use mathlib.Core.List.{List, [], _∷_}
+use mathlib.Core.List.{List, [], _∷_, _++_}
 use mathlib.Core.Logic.{_↔_}
 use mathlib.Core.Path.{_≡_, refl, _∙_, subst}
 use native.Mathlib.Nat.{mod-lt}
 use native.Mathlib.Omega.{arith}
 use borrow.Author.Tests.{eqb-true, eqb-false, leb-true, leb-false, le-leb}
 use lib.Dec.{eqb, leb}
-use lib.ListN.{length, getD, set}
+use lib.ListN.{length, getD, set, drop}
+use lib.Seq.{drop-set-lt}
 use lib.Pow.{pow-pos, le-ones, lt-of-le-ones}
-use Rattle.octets.specs.Octets.{Below}
+use Rattle.octets.specs.Octets.{Below, zeros}
 use Rattle.octets.proofs.Ranges.{below-at}
 use Rattle.aka.specs.Sequence.{sqnBits, FitsSqn, indices, limit, seqOf, indOf}
+use Rattle.aka.specs.Layout.{allZero}
 use Rattle.aka.specs.Usim.{Usim, highest, lowestIndex, seqMs, sqnMs, allWithin}
 use Rattle.aka.specs.UsimLaws.{LowestIndex}
+use Rattle.aka.proofs.Held.{zero-from}
 use Rattle.aka.proofs.Sequence.{seq-sqn, ind-sqn, sqn-seq-ind, sqn-lt}
 
 pub place-le : (l : List ℕ) (i : ℕ) → getD l i 0 ≤ highest l
@@ -97,6 +100,18 @@ within-iff most (p ∷ l) = (from (within-iff most l .0), λ h. rw (le-leb p mos
     from ih e zero = leb-true p most (and-eq-true-iff (leb p most) (allWithin most l) .0 e .0)
     from ih e (suc i) = ih (and-eq-true-iff (leb p most) (allWithin most l) .0 e .1) i
 
+pub zeros-within : (most n : ℕ) → allWithin most (zeros n) ≡ true
+unfolding allWithin
+zeros-within most zero = refl
+zeros-within most (suc n) = rw (le-leb 0 most (omega arith), zeros-within most n)
+
+pub within-append : (most : ℕ) (a b : List ℕ) → allWithin most a ≡ true → allWithin most b ≡ true → allWithin most (a ++ b) ≡ true
+unfolding allWithin
+within-append most [] b ha hb = hb
+within-append most (x ∷ a) b ha hb =
+    let both = and-eq-true-iff (leb x most) (allWithin most a) .0 ha in
+    rw (both .0) (within-append most a b (both .1) hb)
+
 -- within the largest number of so many bits, each place is a digit of so many bits
 pub within-below : (bits : ℕ) (l : List ℕ) → (allWithin (2 ^ bits - 1) l ≡ true) ↔ Below (2 ^ bits) l
 within-below bits l = (
@@ -115,12 +130,29 @@ within-set most (p ∷ l) (suc i) x h e =
     let both = and-eq-true-iff (leb p most) (allWithin most l) .0 e in
     rw (both .0) (within-set most l i x h (both .1))
 
+-- ---- zeros behind the indices
+
+pub zeros-set : (n : ℕ) (l : List ℕ) (i x : ℕ) → i < n → allZero (drop n l) ≡ true → allZero (drop n (set l i x)) ≡ true
+zeros-set n l i x h e = rw (drop-set-lt n l i x h) e
+
+-- the lowest index that holds the highest is no place behind: there it would be 0, and index 0 would hold it too
+pub lowest-inside : (n : ℕ) (l : List ℕ) → 0 < n → n ≤ length l → allZero (drop n l) ≡ true → lowestIndex (highest l) l < n
+lowest-inside n l some long zeros = go (lowestIndex (highest l) l) (highest-lowest l (omega arith)) (leb n (lowestIndex (highest l) l)) refl
+  where
+    go : (i : ℕ) → Lowest (highest l) l i → (b : Bool) → leb n i ≡ b → i < n
+    go i low true e =
+        let behind = leb-true n i e in
+        absurd (low .lowest 0 (omega arith) (omega (arith, place-le l 0, low .holds, zero-from n l .0 zeros i behind)))
+    go i low false e = omega (arith, leb-false n i e)
+
 -- ---- SQN_MS
 
-pub sqn-ms : (w : ℕ) (usim : Usim) → length (usim .places) ≡ indices w → LowestIndex w usim
-sqn-ms w usim size =
-    let low = highest-lowest (usim .places) (rw size (pow-pos w)) in
-    let ind : lowestIndex (seqMs usim) (usim .places) < indices w = rw size at (low .inside) in
+-- the places have room for the indices, and those behind are 0
+pub sqn-ms : (w : ℕ) (usim : Usim) → indices w ≤ length (usim .places) → allZero (drop (indices w) (usim .places)) ≡ true
+    → LowestIndex w usim
+sqn-ms w usim long zeros =
+    let low = highest-lowest (usim .places) (omega (arith, long, pow-pos w)) in
+    let ind : lowestIndex (seqMs usim) (usim .places) < indices w = lowest-inside (indices w) (usim .places) (pow-pos w) long zeros in
     let same = ind-sqn w (seqMs usim) (lowestIndex (seqMs usim) (usim .places)) ind in
     record {
       highest = place-le (usim .places);
@@ -130,9 +162,9 @@ sqn-ms w usim size =
     }
 
 -- it is a number of 48 bits where SEQ_MS is within the limit
-pub sqn-ms-fits : (w : ℕ) → w ≤ sqnBits → (usim : Usim) → length (usim .places) ≡ indices w → seqMs usim ≤ limit w
-    → FitsSqn (sqnMs w usim)
-sqn-ms-fits w hw usim size h =
+pub sqn-ms-fits : (w : ℕ) → w ≤ sqnBits → (usim : Usim) → indices w ≤ length (usim .places)
+    → allZero (drop (indices w) (usim .places)) ≡ true → seqMs usim ≤ limit w → FitsSqn (sqnMs w usim)
+sqn-ms-fits w hw usim long zeros h =
     let sqn = sqnMs w usim in
     subst (λ (x : ℕ). FitsSqn x) (sqn-seq-ind w sqn)
-    (sqn-lt w hw (seqOf w sqn) (indOf w sqn) (rw (sqn-ms w usim size .seq) h) (mod-lt sqn (pow-pos w)))
+    (sqn-lt w hw (seqOf w sqn) (indOf w sqn) (rw (sqn-ms w usim long zeros .seq) h) (mod-lt sqn (pow-pos w)))

@@ -13,6 +13,7 @@ use Rattle.octets.proofs.Absurd.{zero-not-one}
 use Rattle.octets.proofs.Strings.{equal-true, equal-self}
 use Rattle.aka.specs.Layout.{randSize, autnSize, storeSize}
 use Rattle.aka.specs.Functions.{Family, Lawful, Shaped}
+use Rattle.aka.specs.Sequence.{Scheme}
 use Rattle.aka.specs.Usim.{challenge}
 use Rattle.aka.specs.Handset.{Store, repeats, answerIn, Outcome, HandsetAnswer, partsRight, challenged, outcomeOn, answerWith}
 use Rattle.aka.specs.Handset.{Written, clear, repeated, accepted, macFailure, syncFailure, refused}
@@ -26,9 +27,9 @@ use Rattle.aka.proofs.HandsetLaws.{fits, named, handset-promise}
 
 -- ---- one challenge, where what is kept is what the store holds
 
-module _ (w : ℕ) (family : Family) (c : Challenge) (store : Store) where
+module _ (scheme : Scheme) (family : Family) (c : Challenge) (store : Store) where
   abbrev answer : HandsetAnswer
-  answer = challenged w family (c .usim) store (c .rand) (c .autn) (c .fresh)
+  answer = challenged scheme family (c .usim) store (c .rand) (c .autn) (c .fresh)
 
   abbrev inStore : Kept
   inStore = record { rand = part 0 randSize (store .octets); answer = answerIn store }
@@ -56,14 +57,14 @@ module _ (w : ℕ) (family : Family) (c : Challenge) (store : Store) where
       go true h false e = refl
       go false h s e = refl
 
-  meets : Meets w family (heldIn store) c store answer
+  meets : Meets scheme family (heldIn store) c store answer
   unfolding answerWith
   meets =
-      let laws = handset-promise w family .laws (c .usim) store (c .rand) (c .autn) (c .fresh) in
+      let laws = handset-promise scheme family .laws (c .usim) store (c .rand) (c .autn) (c .fresh) in
       record {
         again = λ n shown e.
             let kept = kept-repeats shown e in
-            known.repeats-it w family (c .usim) store (c .rand) (c .autn) (c .fresh) (fits store (c .rand) (c .autn) (c .fresh) n) (kept .0)
+            known.repeats-it scheme family (c .usim) store (c .rand) (c .autn) (c .fresh) (fits store (c .rand) (c .autn) (c .fresh) n) (kept .0)
             ∙ ap (λ (s : Octets). repetition s c store) (kept .1);
         other = λ n h. laws .other n (not-kept h);
         wrong = laws .refusal3;
@@ -75,13 +76,13 @@ module _ (w : ℕ) (family : Family) (c : Challenge) (store : Store) where
     abbrev KeptIn : HandsetAnswer → Type 0
     KeptIn a = keptAfter (answered c store a) (heldIn store) ≡ heldIn (a .store)
 
-    kept-with : (o : Outcome) → outcomeOn w family (c .usim) store (c .rand) (c .autn) (c .fresh) ≡ o
-        → KeptIn (answerWith w family (c .usim) store (c .rand) (c .autn) (c .fresh) o)
+    kept-with : (o : Outcome) → outcomeOn scheme family (c .usim) store (c .rand) (c .autn) (c .fresh) ≡ o
+        → KeptIn (answerWith scheme family (c .usim) store (c .rand) (c .autn) (c .fresh) o)
     unfolding answerWith
     kept-with repeated e = refl
     kept-with accepted e =
-        let tests = known.accepted-tests w family (c .usim) store (c .rand) (c .autn) (c .fresh) e in
-        let size = known.length-given w family (c .usim) store (c .rand) (c .autn) (c .fresh) lawful shaped (tests .2) in
+        let tests = known.accepted-tests scheme family (c .usim) store (c .rand) (c .autn) (c .fresh) e in
+        let size = known.length-given scheme family (c .usim) store (c .rand) (c .autn) (c .fresh) lawful shaped (tests .2) in
         let rand-size = named store (c .rand) (c .autn) (c .fresh) (tests .0) .rand-size in
         rw (known.held-rand (c .rand) _ rand-size, known.held-answer (c .rand) _ rand-size size) refl
     kept-with macFailure e = refl
@@ -90,7 +91,7 @@ module _ (w : ℕ) (family : Family) (c : Challenge) (store : Store) where
 
     kept-after : KeptIn answer
     unfolding challenged
-    kept-after = kept-with (outcomeOn w family (c .usim) store (c .rand) (c .autn) (c .fresh)) refl
+    kept-after = kept-with (outcomeOn scheme family (c .usim) store (c .rand) (c .autn) (c .fresh)) refl
 
 -- ---- a clearing
 
@@ -105,26 +106,26 @@ cleared-kept store = go (eqb (length (store .octets)) storeSize) refl
 
 -- ---- a list of calls on one store
 
-module _ (w : ℕ) (family : Family) (lawful : Lawful family) where
-  step-meets : (store : Store) (call : Call) → MeetsIn w family (heldIn store) (handle w family store call)
-  step-meets store (challenging c) = meets w family c store
+module _ (scheme : Scheme) (family : Family) (lawful : Lawful family) where
+  step-meets : (store : Store) (call : Call) → MeetsIn scheme family (heldIn store) (handle scheme family store call)
+  step-meets store (challenging c) = meets scheme family c store
   step-meets store clearing = record {
-    done = handset-promise w family .clears store;
-    wrong = handset-promise w family .clear-refusal3 store;
+    done = handset-promise scheme family .clears store;
+    wrong = handset-promise scheme family .clear-refusal3 store;
   }
 
   step-kept : (store : Store) (call : Call) → CardShaped call
-      → keptAfter (handle w family store call) (heldIn store) ≡ heldIn (storeAfter (handle w family store call))
-  step-kept store (challenging c) shaped = kept-after w family c store lawful shaped
+      → keptAfter (handle scheme family store call) (heldIn store) ≡ heldIn (storeAfter (handle scheme family store call))
+  step-kept store (challenging c) shaped = kept-after scheme family c store lawful shaped
   step-kept store clearing shaped = cleared-kept store
 
-  alone-repeats : (store : Store) (calls : List Call) → Each CardShaped calls → Repeats w family (heldIn store) (alone w family store calls)
+  alone-repeats : (store : Store) (calls : List Call) → Each CardShaped calls → Repeats scheme family (heldIn store) (alone scheme family store calls)
   unfolding alone Repeats
   alone-repeats store [] shaped = tt
   alone-repeats store (call ∷ rest) shaped =
-      let next = storeAfter (handle w family store call) in (
+      let next = storeAfter (handle scheme family store call) in (
         step-meets store call,
-        subst (λ (k : Option Kept). Repeats w family k (alone w family next rest)) (sym (step-kept store call (shaped .0)))
+        subst (λ (k : Option Kept). Repeats scheme family k (alone scheme family next rest)) (sym (step-kept store call (shaped .0)))
             (alone-repeats next rest (shaped .1)),
       )
 
@@ -142,14 +143,14 @@ module _ (w : ℕ) (family : Family) (lawful : Lawful family) where
   -- a call on a domain, and the calls behind it
   module _ (phone : Phone) (call : Call) (rest : List (On Call)) where
     abbrev here : Domain → Handled
-    here e = handle w family (storeIn e phone) call
+    here e = handle scheme family (storeIn e phone) call
 
     abbrev left : Domain → Phone
     left e = withStore e (storeAfter (here e)) phone
 
-    one-apart : (d e : Domain) → only d (together w family (left e) rest) ≡ alone w family (storeIn d (left e)) (only d rest)
-        → only d (together w family phone (record { domain = e; what = call } ∷ rest))
-        ≡ alone w family (storeIn d phone) (only d (record { domain = e; what = call } ∷ rest))
+    one-apart : (d e : Domain) → only d (together scheme family (left e) rest) ≡ alone scheme family (storeIn d (left e)) (only d rest)
+        → only d (together scheme family phone (record { domain = e; what = call } ∷ rest))
+        ≡ alone scheme family (storeIn d phone) (only d (record { domain = e; what = call } ∷ rest))
     unfolding only together alone
     one-apart cs cs later = ap (λ (l : List Handled). here cs ∷ l) later
     one-apart cs ps later = later
@@ -157,27 +158,27 @@ module _ (w : ℕ) (family : Family) (lawful : Lawful family) where
     one-apart ps ps later = ap (λ (l : List Handled). here ps ∷ l) later
 
   apart : (d : Domain) (phone : Phone) (calls : List (On Call))
-      → only d (together w family phone calls) ≡ alone w family (storeIn d phone) (only d calls)
+      → only d (together scheme family phone calls) ≡ alone scheme family (storeIn d phone) (only d calls)
   unfolding only together alone
   apart d phone [] = refl
   apart d phone (x ∷ rest) =
       one-apart phone (x .what) rest d (x .domain) (apart d (left phone (x .what) rest (x .domain)) rest)
 
-pub repeated-challenge : (w : ℕ) (family : Family) → RepeatedChallenge w family
-repeated-challenge w family lawful phone calls shaped = record {
-  each = λ d. subst (λ (l : List Handled). Repeats w family (heldIn (storeIn d phone)) l) (sym (apart w family lawful d phone calls))
-      (alone-repeats w family lawful (storeIn d phone) (only d calls) (only-shaped w family lawful d calls shaped));
-  apart = λ d. apart w family lawful d phone calls;
+pub repeated-challenge : (scheme : Scheme) (family : Family) → RepeatedChallenge scheme family
+repeated-challenge scheme family lawful phone calls shaped = record {
+  each = λ d. subst (λ (l : List Handled). Repeats scheme family (heldIn (storeIn d phone)) l) (sym (apart scheme family lawful d phone calls))
+      (alone-repeats scheme family lawful (storeIn d phone) (only d calls) (only-shaped scheme family lawful d calls shaped));
+  apart = λ d. apart scheme family lawful d phone calls;
 }
 
 -- ---- in words
 
-module _ (w : ℕ) (family : Family) where
+module _ (scheme : Scheme) (family : Family) where
   -- what follows is as it would be behind the calls between
-  kept-past : (kept : Option Kept) (h : Handled) (rest : List Handled) → keptAfter h kept ≡ kept → Repeats w family kept (h ∷ rest)
-      → Repeats w family kept rest
+  kept-past : (kept : Option Kept) (h : Handled) (rest : List Handled) → keptAfter h kept ≡ kept → Repeats scheme family kept (h ∷ rest)
+      → Repeats scheme family kept rest
   unfolding Repeats
-  kept-past kept h rest e r = subst (λ (k : Option Kept). Repeats w family k rest) e (r .1)
+  kept-past kept h rest e r = subst (λ (k : Option Kept). Repeats scheme family k rest) e (r .1)
 
   not-new : (o : Outcome) → (o ≡ accepted → ⊥) → (latest : Kept) (kept : Option Kept) → keptWith o latest kept ≡ kept
   not-new repeated h latest kept = refl
@@ -199,7 +200,7 @@ module _ (w : ℕ) (family : Family) where
       go false = refl
 
   past-all : (kept : Option Kept) (between rest : List Handled) → Each (λ h. keptAfter h kept ≡ kept) between
-      → Repeats w family kept (between ++ rest) → Repeats w family kept rest
+      → Repeats scheme family kept (between ++ rest) → Repeats scheme family kept rest
   past-all kept [] rest same r = r
   past-all kept (h ∷ between) rest same r = past-all kept between rest (same .1) (kept-past kept h (between ++ rest) (same .0) r)
 
@@ -213,37 +214,37 @@ module _ (w : ℕ) (family : Family) where
   each-none (h ∷ between) new = (none-kept h (new .0), each-none between (new .1))
 
   -- a call on a store on which nothing is kept does not repeat
-  unrepeated : (d : Challenge) (store : Store) (b : HandsetAnswer) → Meets w family none d store b → b .outcome ≡ repeated → ⊥
+  unrepeated : (d : Challenge) (store : Store) (b : HandsetAnswer) → Meets scheme family none d store b → b .outcome ≡ repeated → ⊥
   unrepeated d store b m e = go (partsRight store (d .rand) (d .fresh) && eqb (length (d .autn)) autnSize) refl
     where
       go : (f : Bool) → (partsRight store (d .rand) (d .fresh) && eqb (length (d .autn)) autnSize) ≡ f → ⊥
       go true f =
-          known.no-repeat (challenge w family (d .usim) (d .rand) (d .autn) .verdict)
+          known.no-repeat (challenge scheme family (d .usim) (d .rand) (d .autn) .verdict)
           (sym (m .other (named store (d .rand) (d .autn) (d .fresh) f) (λ shown q. zero-not-one (cc))) ∙ e)
       go false f =
           let refusal = m .wrong (λ n. true≢false (sym (fits store (d .rand) (d .autn) (d .fresh) n) ∙ f)) in
           zero-not-one (cc)
 
   again : (kept : Option Kept) (c d : Challenge) (store later : Store) (a b : HandsetAnswer) (between rest : List Handled)
-      → Repeats w family kept (answered c store a ∷ (between ++ (answered d later b ∷ rest)))
+      → Repeats scheme family kept (answered c store a ∷ (between ++ (answered d later b ∷ rest)))
       → a .outcome ≡ accepted → Each NotAccepted between → Each NotCleared between → d .rand ≡ c .rand → Named d later
       → b ≡ repetition (a .shown) d later
   unfolding Repeats
   again kept c d store later a b between rest r acc new clear same n =
       let latest : Kept = record { rand = c .rand; answer = a .shown } in
-      let behind = subst (λ (k : Option Kept). Repeats w family k (between ++ (answered d later b ∷ rest)))
+      let behind = subst (λ (k : Option Kept). Repeats scheme family k (between ++ (answered d later b ∷ rest)))
       (ap (λ (o : Outcome). keptWith o latest kept) acc) (r .1) in
       let here = past-all (some latest) between (answered d later b ∷ rest) (each-same between new clear (some latest)) behind in
       here .0 .again n (a .shown) (ap (λ (x : Octets). some (record { rand = x; answer = a .shown })) (sym same))
 
   nothing : (kept : Option Kept) (d : Challenge) (store later : Store) (a : Written) (b : HandsetAnswer) (between rest : List Handled)
-      → Repeats w family kept (cleared store a ∷ (between ++ (answered d later b ∷ rest)))
+      → Repeats scheme family kept (cleared store a ∷ (between ++ (answered d later b ∷ rest)))
       → a .refusal ≡ 0 → Each NotAccepted between → b .outcome ≡ repeated → ⊥
   unfolding Repeats
   nothing kept d store later a b between rest r done new e =
-      let behind = subst (λ (n : ℕ). Repeats w family (cond (eqb n 0) none kept) (between ++ (answered d later b ∷ rest))) done (r .1) in
+      let behind = subst (λ (n : ℕ). Repeats scheme family (cond (eqb n 0) none kept) (between ++ (answered d later b ∷ rest))) done (r .1) in
       let here = past-all none between (answered d later b ∷ rest) (each-none between new) behind in
       unrepeated d later b (here .0) e
 
-  pub in-words : InWords w family
+  pub in-words : InWords scheme family
   in-words = record { shown-again = again; nothing-shown = nothing }

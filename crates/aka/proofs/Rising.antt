@@ -6,35 +6,35 @@ use mathlib.Core.List.{List, [], _∷_}
 use mathlib.Core.Option.{Option, none, some}
 use mathlib.Core.Path.{_≡_, refl, sym, ap, _∙_, subst, subst₂}
 use native.Mathlib.Omega.{arith}
-use lib.ListN.{length, set, length-set}
+use lib.ListN.{length, set, length-set, drop}
 use Rattle.octets.specs.Octets.{Octets, equal}
 use Rattle.octets.proofs.Absurd.{zero-not-one}
 use Rattle.octets.proofs.Strings.{equal-true}
-use Rattle.aka.specs.Layout.{Vector, amfSize, randSize, vectorAt}
+use Rattle.aka.specs.Layout.{allZero, Vector, amfSize, randSize, vectorAt}
 use Rattle.aka.specs.Functions.{Functions, Family, Lengths}
-use Rattle.aka.specs.Sequence.{D, indices, limit}
+use Rattle.aka.specs.Sequence.{D, Scheme, Fitting, widthOf, indices, limit}
 use Rattle.aka.specs.Usim.{Usim, UsimAnswer, challenge, fresh, lengthsRight, validUsim, allWithin, highest, seqMs}
 use Rattle.aka.specs.Auc.{makeVector}
 use Rattle.aka.specs.Demand3.{Call, AnsweredCall, Each, FromBatch, OtherNotAccepted, answerTo, answersTo}
 use Rattle.aka.specs.Demand3.{carries, placeFrom, placeOf, later, latest, vectorSeq}
-use Rattle.aka.proofs.Places.{place-le, highest-set, within-set}
+use Rattle.aka.proofs.Places.{place-le, highest-set, within-set, zeros-set}
 use Rattle.aka.proofs.Tokens.{sqnOctets, autn-seq}
 use Rattle.aka.proofs.Verdicts.{fresh-iff, acceptedAnswer, made-accepted, not-accepted-unchanged}
 
 -- what is asked of a batch of n vectors
-pub record Rising (w : ℕ) (family : Family) (usim : Usim) (batch : Octets) (n : ℕ)
+pub record Rising (scheme : Scheme) (family : Family) (usim : Usim) (batch : Octets) (n : ℕ)
     (amf : Octets) (seq ind : ℕ → ℕ) (rand : ℕ → Octets) : Type 0 where
-  pub width : w ≤ 48
-  pub known : family .known (usim .keys .set) ≡ true
+  pub fits : Fitting scheme
+  pub admitted : family .admits (usim .edition) (usim .keys) ≡ true
   pub amf-size : length amf ≡ amfSize
   pub rand-size : (k : ℕ) → k < n → length (rand k) ≡ randSize
-  pub index : (k : ℕ) → k < n → ind k < indices w
+  pub index : (k : ℕ) → k < n → ind k < indices (widthOf scheme (usim .edition))
   pub above : (k : ℕ) → k < n → seqMs usim < seq k
   pub rising : (j k : ℕ) → j < k → k < n → seq j < seq k
   pub near : (k : ℕ) → k < n → seq k ≤ seqMs usim + D
-  pub within : (k : ℕ) → k < n → seq k ≤ limit w
+  pub within : (k : ℕ) → k < n → seq k ≤ limit (widthOf scheme (usim .edition))
   pub vectors : (k : ℕ) → k < n
-      → vectorAt batch k ≡ makeVector (family .under (usim .keys)) (sqnOctets w (seq k) (ind k)) amf (rand k)
+      → vectorAt batch k ≡ makeVector (family .under (usim .keys)) (sqnOctets (widthOf scheme (usim .edition)) (seq k) (ind k)) amf (rand k)
 
 -- what holds of a call: if it is of the batch it is accepted, and SEQ_MS is the number of the last vector counted
 pub record Counted (w : ℕ) (F : Functions) (batch : Octets) (n : ℕ) (seq : ℕ → ℕ) (c : AnsweredCall) : Type 0 where
@@ -81,17 +81,24 @@ current ms seq none = ms
 current ms seq (some k) = seq k
 
 abbrev withPlaces : Usim → List ℕ → Usim
-withPlaces usim l = record { keys = usim .keys; places = l }
+withPlaces usim l = record { edition = usim .edition; keys = usim .keys; places = l }
 
-module _ (w : ℕ) (family : Family) (usim : Usim) (L : Lengths (family .under (usim .keys))) (batch : Octets) (n : ℕ)
-    (amf : Octets) (seq ind : ℕ → ℕ) (rand : ℕ → Octets) (B : Rising w family usim batch n amf seq ind rand) where
+module _ (scheme : Scheme) (family : Family) (usim : Usim) (L : Lengths (family .under (usim .keys))) (batch : Octets) (n : ℕ)
+    (amf : Octets) (seq ind : ℕ → ℕ) (rand : ℕ → Octets) (B : Rising scheme family usim batch n amf seq ind rand) where
+  abbrev w : ℕ
+  w = widthOf scheme (usim .edition)
+
+  width : w ≤ 48
+  width = B .fits .width (usim .edition)
+
   abbrev F : Functions
   F = family .under (usim .keys)
 
   -- between two calls: the places, and the last place counted
   record Between (l : List ℕ) (last : Option ℕ) : Type 0 where
-    pub size : length l ≡ indices w
+    pub size : length l ≡ scheme .places
     pub within : allWithin (limit w) l ≡ true
+    pub zeros : allZero (drop (indices w) l) ≡ true
     pub number : highest l ≡ current (seqMs usim) seq last
     pub low : later last ≤ n
 
@@ -119,27 +126,28 @@ module _ (w : ℕ) (family : Family) (usim : Usim) (L : Lengths (family .under (
     is-fresh = fresh-iff l (seq k) (ind k) .1
         (omega (arith, place-le l (ind k), higher), omega (arith, B .near k inside, not-below last (at .low), at .number))
 
-    valid : validUsim w family (withPlaces usim l) ≡ true
+    valid : validUsim scheme family (withPlaces usim l) ≡ true
     unfolding validUsim
-    valid = rw (B .known) (at .within)
+    valid = rw (B .admitted, at .within, at .zeros)
 
-    the-answer : challenge w family (withPlaces usim l) (call .rand) (call .autn)
-        ≡ acceptedAnswer w (B .width) family (withPlaces usim l) L valid (seq k) (ind k)
+    the-answer : challenge scheme family (withPlaces usim l) (call .rand) (call .autn)
+        ≡ acceptedAnswer scheme (B .fits) family (withPlaces usim l) L valid (seq k) (ind k)
         (B .within k inside) (B .index k inside) amf (rand k) (B .amf-size) (B .rand-size k inside)
     unfolding makeVector
     the-answer =
         let c = carried batch call k (place .2) in
         let v = B .vectors k inside in
         rw (c .0 ∙ ap (λ (x : Vector). x .rand) v, c .1 ∙ ap (λ (x : Vector). x .autn) v)
-        (made-accepted w (B .width) family (withPlaces usim l) L valid (seq k) (ind k)
+        (made-accepted scheme (B .fits) family (withPlaces usim l) L valid (seq k) (ind k)
         (B .within k inside) (B .index k inside) amf (rand k) (B .amf-size) (B .rand-size k inside) is-fresh)
 
     next : Between (set l (ind k) (seq k)) (some k)
     next =
-        let bound : ind k < length l = rw (at .size) (B .index k inside) in
+        let bound : ind k < length l = omega (arith, at .size, B .index k inside, B .fits .places (usim .edition)) in
         record {
           size = length-set l (ind k) (seq k) ∙ at .size;
           within = within-set (limit w) l (ind k) (seq k) (B .within k inside) (at .within);
+          zeros = zeros-set (indices w) l (ind k) (seq k) (B .index k inside) (at .zeros);
           number = highest-set l (ind k) (seq k) bound (omega (arith, higher));
           low = inside;
         }
@@ -149,14 +157,14 @@ module _ (w : ℕ) (family : Family) (usim : Usim) (L : Lengths (family .under (
   unfolding makeVector
   vector-number k h =
       rw (B .vectors k h)
-      (autn-seq w (B .width) F L (seq k) (ind k) (B .within k h) (B .index k h) amf (rand k) (B .amf-size) (B .rand-size k h))
+      (autn-seq w width F L (seq k) (ind k) (B .within k h) (B .index k h) amf (rand k) (B .amf-size) (B .rand-size k h))
 
   abbrev walk : Usim → Option ℕ → List Call → List AnsweredCall
-  walk u last calls = answersTo w family batch n u last calls
+  walk u last calls = answersTo scheme family batch n u last calls
 
   -- the record after a call
   abbrev then : List ℕ → Call → Usim
-  then l call = challenge w family (withPlaces usim l) (call .rand) (call .autn) .usim
+  then l call = challenge scheme family (withPlaces usim l) (call .rand) (call .autn) .usim
 
   abbrev Goal : List Call → Usim → Option ℕ → Type 0
   Goal calls u last = Each OtherNotAccepted (walk u last calls) → Each (Counted w F batch n seq) (walk u last calls)
@@ -167,13 +175,13 @@ module _ (w : ℕ) (family : Family) (usim : Usim) (L : Lengths (family .under (
   one : (call : Call) (rest : List Call) (l : List ℕ) (last : Option ℕ) → Between l last
       → (p : Option ℕ) → placeOf batch n last call ≡ p
       → ((l′ : List ℕ) (last′ : Option ℕ) → Between l′ last′ → Goal rest (withPlaces usim l′) last′)
-      → OtherNotAccepted (answerTo w family batch n (withPlaces usim l) last call)
-      → Counted w F batch n seq (answerTo w family batch n (withPlaces usim l) last call)
+      → OtherNotAccepted (answerTo scheme family batch n (withPlaces usim l) last call)
+      → Counted w F batch n seq (answerTo scheme family batch n (withPlaces usim l) last call)
       × Goal rest (then l call) (latest (placeOf batch n last call) last)
   unfolding makeVector
   one call rest l last at none e ih other =
       let same : then l call ≡ withPlaces usim l =
-      not-accepted-unchanged w family (withPlaces usim l) (call .rand) (call .autn) (other e) in
+      not-accepted-unchanged scheme family (withPlaces usim l) (call .rand) (call .autn) (other e) in
       let now : latest (placeOf batch n last call) last ≡ last = ap (λ (o : Option ℕ). latest o last) e in
       let number : (k : ℕ) → latest (placeOf batch n last call) last ≡ some k → (k < n) × (highest l ≡ seq k) =
       λ k q. here l last at k (sym now ∙ q) in (
@@ -224,6 +232,7 @@ module _ (w : ℕ) (family : Family) (usim : Usim) (L : Lengths (family .under (
       (both .0, both .1 (others .1))
 
   -- from the USIM's record, for every list of calls
-  pub all-calls : length (usim .places) ≡ indices w → allWithin (limit w) (usim .places) ≡ true
-      → (calls : List Call) → Goal calls usim none
-  all-calls size within calls = from calls (usim .places) none (record { size = size; within = within; number = refl; low = omega arith })
+  pub all-calls : length (usim .places) ≡ scheme .places → allWithin (limit w) (usim .places) ≡ true
+      → allZero (drop (indices w) (usim .places)) ≡ true → (calls : List Call) → Goal calls usim none
+  all-calls size within zeros calls =
+      from calls (usim .places) none (record { size = size; within = within; zeros = zeros; number = refl; low = omega arith })

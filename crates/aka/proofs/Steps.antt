@@ -7,6 +7,7 @@ use native.Mathlib.Omega.{arith}
 use Rattle.octets.specs.Octets.{Octets, equal}
 use Rattle.aka.specs.Layout.{randAt, writeVector, joined}
 use Rattle.aka.specs.Functions.{Family}
+use Rattle.aka.specs.Sequence.{Scheme}
 use Rattle.aka.specs.Auc.{Auc, unequal, equalAt, pairWith, pairFrom, vectorFrom, batchFrom}
 use Rattle.aka.proofs.Layouts.{joined-next}
 
@@ -41,13 +42,13 @@ module _ (rands : Octets) (n i : ℕ) where
 
 -- ---- a batch, a vector at a time
 
-module _ (w : ℕ) (family : Family) (auc : Auc) (from : ℕ) (rands : Octets) where
-  pub batch-none : batchFrom w family auc from rands 0 ≡ []
+module _ (scheme : Scheme) (family : Family) (auc : Auc) (from : ℕ) (rands : Octets) where
+  pub batch-none : batchFrom scheme family auc from rands 0 ≡ []
   unfolding batchFrom joined
   batch-none = refl
 
   pub batch-next : (k : ℕ)
-      → batchFrom w family auc from rands (k + 1)
-      ≡ batchFrom w family auc from rands k ++ writeVector (vectorFrom w family auc from rands k)
+      → batchFrom scheme family auc from rands (k + 1)
+      ≡ batchFrom scheme family auc from rands k ++ writeVector (vectorFrom scheme family auc from rands k)
   unfolding batchFrom
-  batch-next k = joined-next (λ j. writeVector (vectorFrom w family auc from rands j)) k
+  batch-next k = joined-next (λ j. writeVector (vectorFrom scheme family auc from rands j)) k

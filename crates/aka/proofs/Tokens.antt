@@ -109,7 +109,7 @@ module _ (F : Functions) (L : Lengths F) (sqn amf rand : Octets)
 
 module _ (w : ℕ) (hw : w ≤ 48) (F : Functions) (L : Lengths F) (seq ind : ℕ) (hq : seq ≤ limit w) (hi : ind < indices w)
     (amf rand : Octets) (ha : length amf ≡ amfSize) (hr : length rand ≡ randSize) where
-  sqn-is : decode (sqnIn F rand (makeAutn F (sqnOctets w seq ind) amf rand)) ≡ sqnOf w seq ind
+  pub sqn-is : decode (sqnIn F rand (makeAutn F (sqnOctets w seq ind) amf rand)) ≡ sqnOf w seq ind
   sqn-is = ap decode (autn-sqn F L (sqnOctets w seq ind) amf rand (length-sqn (sqnOf w seq ind)) ha hr) ∙ decode-sqn w seq ind hw hq hi
 
   pub autn-seq : seqIn w F rand (makeAutn F (sqnOctets w seq ind) amf rand) ≡ seq

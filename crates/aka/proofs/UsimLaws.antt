@@ -5,7 +5,6 @@ use mathlib.Core.List.{List}
 use mathlib.Core.Logic.{_↔_}
 use mathlib.Core.Path.{_≡_, refl, sym, ap, _∙_, subst}
 use native.Mathlib.Omega.{arith}
-use borrow.Author.Tests.{le-leb}
 use lib.ListN.{length, getD, replicate, set, length-set}
 use lib.Seq.{getD-set-same, getD-set-other}
 use Rattle.octets.specs.Octets.{part, Octets, Below, zeros, decode}
@@ -16,40 +15,45 @@ use Rattle.octets.proofs.Ranges.{below-part, below-xor}
 use Rattle.octets.proofs.Xor.{length-xor}
 use Rattle.aka.specs.Layout.{randSize, autnSize, sqnSize, autsSize, readAutn, writeAuts}
 use Rattle.aka.specs.Functions.{Keys, Functions, Family, Shaped, Lawful}
-use Rattle.aka.specs.Sequence.{sqnBits, FitsSqn, indices, limit}
-use Rattle.aka.specs.Usim.{Usim, UsimAnswer, newUsim, highest, seqMs, sqnMs, challenge, unchanged, verdictOn, judgement, answerWith}
+use Rattle.aka.specs.Sequence.{Scheme, Fitting, widthOf, FitsSqn, indices, limit}
+use Rattle.aka.specs.Usim.{Usim, UsimShaped, UsimAnswer, newUsim, highest, seqMs, sqnMs, challenge, unchanged, verdictOn, judgement, answerWith}
 use Rattle.aka.specs.Usim.{Verdict, accepted, macFailure, syncFailure, refused, refusalOf}
 use Rattle.aka.specs.Usim.{validUsim, allWithin, lengthsRight, sqnIn, seqIn, indIn, macRight, fresh, makeAuts}
-use Rattle.aka.specs.UsimLaws.{autsOf, LengthsNamed, Unrefused, Fresh, Acceptable, OnePlace, UsimLaws, SameAnswer, UsimPromise}
+use Rattle.aka.specs.UsimLaws.{autsOf, LengthsNamed, Unrefused, Fresh, Acceptable, OnePlace, UsimLaws, LowestIndex, SameAnswer}
+use Rattle.aka.specs.UsimLaws.{UsimPromise}
+use Rattle.aka.proofs.Held.{zero-from}
 use Rattle.aka.proofs.Places.{within-iff, sqn-ms}
 use Rattle.aka.proofs.Verdicts as known
 
 -- ---- one challenge
 
-module _ (w : ℕ) (family : Family) (usim : Usim) (rand autn : Octets) where
+module _ (scheme : Scheme) (family : Family) (usim : Usim) (rand autn : Octets) where
+  abbrev w : ℕ
+  w = widthOf scheme (usim .edition)
+
   abbrev F : Functions
   F = family .under (usim .keys)
 
   abbrev answer : UsimAnswer
-  answer = challenge w family usim rand autn
+  answer = challenge scheme family usim rand autn
 
   abbrev test : Bool
   test = fresh (usim .places) (seqIn w F rand autn) (indIn w F rand autn)
 
   abbrev verdict : Verdict
-  verdict = verdictOn w family usim rand autn
+  verdict = verdictOn scheme family usim rand autn
 
   is : answer .verdict ≡ verdict
-  is = known.verdict-is w family usim rand autn
+  is = known.verdict-is scheme family usim rand autn
 
-  lengths : Unrefused w family usim rand autn → lengthsRight rand autn ≡ true
+  lengths : Unrefused scheme family usim rand autn → lengthsRight rand autn ≡ true
   lengths a = known.lengths-right rand autn (a .lengths .rand-size) (a .lengths .autn-size)
 
-  named : lengthsRight rand autn ≡ true → LengthsNamed w family usim rand autn
+  named : lengthsRight rand autn ≡ true → LengthsNamed scheme family usim rand autn
   named e = let both = known.lengths-known rand autn e in record { rand-size = both .0; autn-size = both .1 }
 
   -- another length fails the test
-  not-named : (LengthsNamed w family usim rand autn → ⊥) → lengthsRight rand autn ≡ false
+  not-named : (LengthsNamed scheme family usim rand autn → ⊥) → lengthsRight rand autn ≡ false
   not-named h = go (lengthsRight rand autn) refl
     where
       go : (b : Bool) → lengthsRight rand autn ≡ b → b ≡ false
@@ -61,10 +65,10 @@ module _ (w : ℕ) (family : Family) (usim : Usim) (rand autn : Octets) where
   no-number true false number e = zero-not-one (cc)
   no-number false new number e = zero-not-one (cc)
 
-  not-refused : Unrefused w family usim rand autn → (number : ℕ) → answer .verdict ≡ refused number → ⊥
+  not-refused : Unrefused scheme family usim rand autn → (number : ℕ) → answer .verdict ≡ refused number → ⊥
   unfolding judgement
   not-refused a number e =
-      no-number (macRight F rand autn) test number (sym (known.judged w family usim rand autn (a .valid) (lengths a)) ∙ e)
+      no-number (macRight F rand autn) test number (sym (known.judged scheme family usim rand autn (a .valid) (lengths a)) ∙ e)
 
   -- a verdict that is no refusal has the number 0
   none : (v : Verdict) → ((number : ℕ) → v ≡ refused number → ⊥) → refusalOf v ≡ 0
@@ -73,29 +77,29 @@ module _ (w : ℕ) (family : Family) (usim : Usim) (rand autn : Octets) where
   none syncFailure h = refl
   none (refused number) h = absurd (h number refl)
 
-  fresh-iff : (test ≡ true) ↔ Fresh w family usim rand autn
+  fresh-iff : (test ≡ true) ↔ Fresh scheme family usim rand autn
   fresh-iff = known.fresh-iff (usim .places) (seqIn w F rand autn) (indIn w F rand autn)
 
-  not-new : (Fresh w family usim rand autn → ⊥) → test ≡ false
+  not-new : (Fresh scheme family usim rand autn → ⊥) → test ≡ false
   not-new h = go test refl
     where
       go : (b : Bool) → test ≡ b → b ≡ false
       go true e = absurd (h (fresh-iff .0 e))
       go false e = refl
 
-  fresh-accepted : Acceptable w family usim rand autn → answer .verdict ≡ accepted
+  fresh-accepted : Acceptable scheme family usim rand autn → answer .verdict ≡ accepted
   fresh-accepted a =
-      known.mac-right w family usim rand autn (a .unrefused .valid) (lengths (a .unrefused)) (a .mac) ∙ rw (fresh-iff .1 (a .fresh))
+      known.mac-right scheme family usim rand autn (a .unrefused .valid) (lengths (a .unrefused)) (a .mac) ∙ rw (fresh-iff .1 (a .fresh))
 
-  accepted-fresh : answer .verdict ≡ accepted → Acceptable w family usim rand autn
+  accepted-fresh : answer .verdict ≡ accepted → Acceptable scheme family usim rand autn
   accepted-fresh e =
-      let tests = known.accepted-tests w family usim rand autn e in
+      let tests = known.accepted-tests scheme family usim rand autn e in
       record { unrefused = record { valid = tests .0; lengths = named (tests .1) }; mac = tests .2; fresh = fresh-iff .0 (tests .3) }
 
-  is-accepted : answer .verdict ≡ accepted → answer ≡ answerWith w family usim rand autn accepted
-  is-accepted e = known.answer-of w family usim rand autn accepted e
+  is-accepted : answer .verdict ≡ accepted → answer ≡ answerWith scheme family usim rand autn accepted
+  is-accepted e = known.answer-of scheme family usim rand autn accepted e
 
-  one-place : answer .verdict ≡ accepted → OnePlace w family usim rand autn
+  one-place : answer .verdict ≡ accepted → OnePlace scheme family usim rand autn
   unfolding answerWith
   one-place e =
       let a = is-accepted e in
@@ -103,6 +107,7 @@ module _ (w : ℕ) (family : Family) (usim : Usim) (rand autn : Octets) where
       let i = indIn w F rand autn in
       let places : answer .usim .places ≡ set (usim .places) i s = ap (λ (x : UsimAnswer). x .usim .places) a in
       record {
+        edition = ap (λ (x : UsimAnswer). x .usim .edition) a;
         keys = ap (λ (x : UsimAnswer). x .usim .keys) a;
         size = ap length places ∙ length-set (usim .places) i s;
         place = λ h. ap (λ (l : List ℕ). getD l i 0) places ∙ getD-set-same (usim .places) i s 0 h;
@@ -110,14 +115,14 @@ module _ (w : ℕ) (family : Family) (usim : Usim) (rand autn : Octets) where
       }
 
   unchanged-with : (v : Verdict) → (v ≡ accepted → ⊥)
-      → answerWith w family usim rand autn v ≡ unchanged v usim (answerWith w family usim rand autn v .auts)
+      → answerWith scheme family usim rand autn v ≡ unchanged v usim (answerWith scheme family usim rand autn v .auts)
   unfolding answerWith
   unchanged-with accepted h = absurd (h refl)
   unchanged-with macFailure h = refl
   unchanged-with syncFailure h = refl
   unchanged-with (refused number) h = refl
 
-  no-auts-with : (v : Verdict) → (v ≡ syncFailure → ⊥) → answerWith w family usim rand autn v .auts ≡ zeros autsSize
+  no-auts-with : (v : Verdict) → (v ≡ syncFailure → ⊥) → answerWith scheme family usim rand autn v .auts ≡ zeros autsSize
   unfolding answerWith
   no-auts-with accepted h = refl
   no-auts-with macFailure h = refl
@@ -126,19 +131,19 @@ module _ (w : ℕ) (family : Family) (usim : Usim) (rand autn : Octets) where
 
   auts-is : answer .verdict ≡ syncFailure → answer .auts ≡ autsOf F (sqnMs w usim) rand
   unfolding makeAuts writeAuts
-  auts-is e = ap (λ (x : UsimAnswer). x .auts) (known.sync-answer w family usim rand autn e)
+  auts-is e = ap (λ (x : UsimAnswer). x .auts) (known.sync-answer scheme family usim rand autn e)
 
-  laws : UsimLaws w family usim rand autn
+  laws : UsimLaws scheme family usim rand autn
   unfolding answerWith challenge
   laws = record {
-    refusal1 = known.refused-1 w family usim rand autn;
-    refusal3 = λ valid bad. known.refused-3 w family usim rand autn valid (not-named bad);
+    refusal1 = known.refused-1 scheme family usim rand autn;
+    refusal3 = λ valid bad. known.refused-3 scheme family usim rand autn valid (not-named bad);
     not-refused = not-refused;
-    number1 = λ bad. ap refusalOf (known.refused-1 w family usim rand autn bad);
-    number3 = λ valid bad. ap refusalOf (known.refused-3 w family usim rand autn valid (not-named bad));
+    number1 = λ bad. ap refusalOf (known.refused-1 scheme family usim rand autn bad);
+    number3 = λ valid bad. ap refusalOf (known.refused-3 scheme family usim rand autn valid (not-named bad));
     number0 = λ a. none (answer .verdict) (not-refused a);
-    mac-wrong = λ a wrong. known.mac-wrong w family usim rand autn (a .valid) (lengths a) wrong;
-    not-fresh = λ a right h. known.mac-right w family usim rand autn (a .valid) (lengths a) right ∙ rw (not-new h);
+    mac-wrong = λ a wrong. known.mac-wrong scheme family usim rand autn (a .valid) (lengths a) wrong;
+    not-fresh = λ a right h. known.mac-right scheme family usim rand autn (a .valid) (lengths a) right ∙ rw (not-new h);
     auts = auts-is;
     fresh-accepted = fresh-accepted;
     accepted-fresh = accepted-fresh;
@@ -152,27 +157,27 @@ module _ (w : ℕ) (family : Family) (usim : Usim) (rand autn : Octets) where
 
 -- ---- two USIMs
 
-module _ (w : ℕ) (family : Family) (usim usim′ : Usim) (rand autn : Octets)
-    (v : validUsim w family usim ≡ true) (v′ : validUsim w family usim′ ≡ true)
+module _ (scheme : Scheme) (family : Family) (usim usim′ : Usim) (rand autn : Octets)
+    (v : validUsim scheme family usim ≡ true) (v′ : validUsim scheme family usim′ ≡ true)
     (same : usim .keys ≡ usim′ .keys) (wrong : macRight (family .under (usim .keys)) rand autn ≡ false) where
   -- the verdict does not look at the places
   blind : Bool → Verdict
   blind right = cond (not right) (refused 3) macFailure
 
-  module _ (u : Usim) (valid : validUsim w family u ≡ true) (not-right : macRight (family .under (u .keys)) rand autn ≡ false) where
-    verdict-blind : challenge w family u rand autn .verdict ≡ blind (lengthsRight rand autn)
+  module _ (u : Usim) (valid : validUsim scheme family u ≡ true) (not-right : macRight (family .under (u .keys)) rand autn ≡ false) where
+    verdict-blind : challenge scheme family u rand autn .verdict ≡ blind (lengthsRight rand autn)
     unfolding verdictOn judgement blind
-    verdict-blind = known.verdict-is w family u rand autn ∙ rw (valid, not-right)
+    verdict-blind = known.verdict-is scheme family u rand autn ∙ rw (valid, not-right)
 
-    blind-auts : (right : Bool) → answerWith w family u rand autn (blind right) ≡ unchanged (blind right) u (zeros autsSize)
+    blind-auts : (right : Bool) → answerWith scheme family u rand autn (blind right) ≡ unchanged (blind right) u (zeros autsSize)
     unfolding answerWith blind
     blind-auts true = refl
     blind-auts false = refl
 
-    answer-blind : challenge w family u rand autn ≡ unchanged (blind (lengthsRight rand autn)) u (zeros autsSize)
-    answer-blind = known.answer-of w family u rand autn _ verdict-blind ∙ blind-auts (lengthsRight rand autn)
+    answer-blind : challenge scheme family u rand autn ≡ unchanged (blind (lengthsRight rand autn)) u (zeros autsSize)
+    answer-blind = known.answer-of scheme family u rand autn _ verdict-blind ∙ blind-auts (lengthsRight rand autn)
 
-  alike : SameAnswer (challenge w family usim rand autn) (challenge w family usim′ rand autn)
+  alike : SameAnswer (challenge scheme family usim rand autn) (challenge scheme family usim′ rand autn)
   alike =
       let a = answer-blind usim v wrong in
       let b = answer-blind usim′ v′ (rw (← same) wrong) in
@@ -186,72 +191,88 @@ module _ (w : ℕ) (family : Family) (usim usim′ : Usim) (rand autn : Octets)
 
 -- ---- the next record
 
-module _ (w : ℕ) (hw : w ≤ sqnBits) (family : Family) (lawful : Lawful family) (usim : Usim) (rand autn : Octets)
+module _ (scheme : Scheme) (fits : Fitting scheme) (family : Family) (lawful : Lawful family) (usim : Usim) (rand autn : Octets)
     (shaped : Shaped (usim .keys)) (bk : Below 256 (usim .keys .k)) (bo : Below 256 (usim .keys .opc))
-    (br : Below 256 rand) (ba : Below 256 autn) (valid : validUsim w family usim ≡ true) where
+    (br : Below 256 rand) (ba : Below 256 autn) (valid : validUsim scheme family usim ≡ true) where
   abbrev G : Functions
   G = family .under (usim .keys)
 
   abbrev concealed : Octets
   concealed = part 0 sqnSize autn
 
-  known-set : family .known (usim .keys .set) ≡ true
-  known-set = known.valid-parts w family usim valid .0
+  admitted : family .admits (usim .edition) (usim .keys) ≡ true
+  admitted = known.valid-parts scheme family usim valid .0
 
   -- SQN is a number of 48 bits
   sqn-fits : length rand ≡ randSize → length autn ≡ autnSize → FitsSqn (decode (sqnIn G rand autn))
   unfolding readAutn
   sqn-fits hr ha =
-      let ak : length (G .f5 rand) ≡ sqnSize = lawful .lengths (usim .keys) known-set shaped .f5 rand hr in
+      let ak : length (G .f5 rand) ≡ sqnSize = lawful .lengths (usim .edition) (usim .keys) admitted shaped .f5 rand hr in
       let front : length concealed ≡ sqnSize = length-part 0 sqnSize autn (omega arith) in
       let six : length (sqnIn G rand autn) ≡ sqnSize = length-xor concealed (G .f5 rand) (omega arith) ∙ front in
       subst (λ (k : ℕ). decode (sqnIn G rand autn) < 256 ^ k) six
       (number-lt 256 (sqnIn G rand autn)
       (below-xor 8 concealed (G .f5 rand) (below-part 256 0 sqnSize autn (omega arith) ba)
-      (lawful .octets (usim .keys) rand known-set shaped hr bk bo br)))
+      (lawful .octets (usim .edition) (usim .keys) rand admitted shaped hr bk bo br)))
 
-  stays-valid : validUsim w family (challenge w family usim rand autn .usim) ≡ true
-  stays-valid = known.next-valid w family usim rand autn hw valid accepted-fits
+  stays-valid : validUsim scheme family (challenge scheme family usim rand autn .usim) ≡ true
+  stays-valid = known.next-valid scheme family usim rand autn fits valid accepted-fits
     where
-      accepted-fits : challenge w family usim rand autn .verdict ≡ accepted → FitsSqn (decode (sqnIn G rand autn))
+      accepted-fits : challenge scheme family usim rand autn .verdict ≡ accepted → FitsSqn (decode (sqnIn G rand autn))
       accepted-fits e =
-          let sizes = known.lengths-known rand autn (known.accepted-tests w family usim rand autn e .1) in
+          let sizes = known.lengths-known rand autn (known.accepted-tests scheme family usim rand autn e .1) in
           sqn-fits (sizes .0) (sizes .1)
 
-valid-iff : (w : ℕ) (family : Family) (usim : Usim)
-    → (validUsim w family usim ≡ true) ↔ ((family .known (usim .keys .set) ≡ true) × ((i : ℕ) → getD (usim .places) i 0 ≤ limit w))
+valid-iff : (scheme : Scheme) (family : Family) (usim : Usim)
+    → (validUsim scheme family usim ≡ true) ↔ (
+    (family .admits (usim .edition) (usim .keys) ≡ true)
+    × ((i : ℕ) → getD (usim .places) i 0 ≤ limit (widthOf scheme (usim .edition)))
+    × ((i : ℕ) → indices (widthOf scheme (usim .edition)) ≤ i → getD (usim .places) i 0 ≡ 0)
+    )
 unfolding validUsim
-valid-iff w family usim = (
-  λ e. let both = known.valid-parts w family usim e in (both .0, within-iff (limit w) (usim .places) .0 (both .1)),
-  λ h. rw (h .0) (within-iff (limit w) (usim .places) .1 (h .1)),
-)
+valid-iff scheme family usim =
+    let w = widthOf scheme (usim .edition) in (
+      λ e.
+          let parts = known.valid-parts scheme family usim e in
+          (parts .0, within-iff (limit w) (usim .places) .0 (parts .1), zero-from (indices w) (usim .places) .0 (parts .2)),
+      λ h. rw (h .0, within-iff (limit w) (usim .places) .1 (h .1), zero-from (indices w) (usim .places) .1 (h .2)),
+    )
 
 zero-highest : (n : ℕ) → highest (replicate n 0) ≡ 0
 unfolding highest
 zero-highest zero = refl
 zero-highest (suc n) = rw (zero-highest n)
 
-new-seq : (w : ℕ) (keys : Keys) → seqMs (newUsim w keys) ≡ 0
-new-seq w keys = zero-highest (indices w)
+new-seq : (scheme : Scheme) (edition : ℕ) (keys : Keys) → seqMs (newUsim scheme edition keys) ≡ 0
+new-seq scheme edition keys = zero-highest (scheme .places)
 
-all-zero : (most n : ℕ) → allWithin most (replicate n 0) ≡ true
-unfolding allWithin
-all-zero most zero = refl
-all-zero most (suc n) = rw (le-leb 0 most (omega arith), all-zero most n)
+-- every place of a new card is 0
+zero-place : (n i : ℕ) → getD {A = ℕ} (replicate n 0) i 0 ≡ 0
+zero-place zero i = refl
+zero-place (suc n) zero = refl
+zero-place (suc n) (suc i) = zero-place n i
 
-valid-new : (w : ℕ) (family : Family) (keys : Keys) → family .known (keys .set) ≡ true → validUsim w family (newUsim w keys) ≡ true
-unfolding validUsim
-valid-new w family keys known-set = rw (known-set, all-zero (limit w) (indices w))
+valid-new : (scheme : Scheme) (family : Family) (edition : ℕ) (keys : Keys) → family .admits edition keys ≡ true
+    → validUsim scheme family (newUsim scheme edition keys) ≡ true
+valid-new scheme family edition keys admitted =
+    let place = zero-place (scheme .places) in
+    valid-iff scheme family (newUsim scheme edition keys) .1 (admitted, λ i. omega (arith, place i), λ i h. place i)
+
+lowest : (scheme : Scheme) (family : Family) → Fitting scheme → (usim : Usim) → UsimShaped scheme usim
+    → validUsim scheme family usim ≡ true → LowestIndex (widthOf scheme (usim .edition)) usim
+lowest scheme family fits usim shaped valid =
+    sqn-ms (widthOf scheme (usim .edition)) usim (rw (shaped .places) (fits .places (usim .edition)))
+    (known.valid-parts scheme family usim valid .2)
 
 -- ---- all of it
 
-pub usim-promise : (w : ℕ) (family : Family) → UsimPromise w family
-usim-promise w family = record {
-  laws = laws w family;
-  sqn-ms = sqn-ms w;
-  alike = alike w family;
-  valid = valid-iff w family;
-  new-seq = new-seq w;
-  new-valid = λ keys known-set. valid-new w family keys known-set;
-  stays-valid = λ hw lawful. stays-valid w hw family lawful;
+pub usim-promise : (scheme : Scheme) (family : Family) → UsimPromise scheme family
+usim-promise scheme family = record {
+  laws = laws scheme family;
+  sqn-ms = lowest scheme family;
+  alike = alike scheme family;
+  valid = valid-iff scheme family;
+  new-seq = new-seq scheme;
+  new-valid = valid-new scheme family;
+  stays-valid = λ fits lawful. stays-valid scheme fits family lawful;
 }

@@ -1,5 +1,5 @@
 -- The authentication centre, AuC (document 01: centre): its record, and its whole answers to an order and to a resynchronisation.
--- TS 33.102 §6.3.2 and §6.3.5; document 01, 'What the centre does' and 'Refusal numbers'. Assumes nothing.
+-- TS 33.102 §6.3.2 and §6.3.5; document 01, 'What the centre does' and 'Refusal numbers'; document 02, #104. Assumes nothing.
 use Prim.Native.Nat.{ℕ, zero, suc, _+_, _*_, _%_}
 use mathlib.Core.Bool.{Bool, _&&_, not, cond}
 use mathlib.Core.Path.{_≡_}
@@ -9,10 +9,11 @@ use Rattle.octets.specs.Octets.{Octets, xor, equal, encode, decode}
 use Rattle.aka.specs.Layout.{Vector, writeAutn, writeVector, readAuts}
 use Rattle.aka.specs.Layout.{randSize, sqnSize, amfSize, autsSize, vectorSize, mostVectors, randAt, joined}
 use Rattle.aka.specs.Functions.{Keys, Shaped, Functions, Family, dummyAmf}
-use Rattle.aka.specs.Sequence.{D, indices, limit, sqnOf, seqOf}
+use Rattle.aka.specs.Sequence.{D, Numbering, Scheme, indices, limit, sqnOf, seqOf}
 
 -- the centre's record
 pub record Auc : Type 0 where
+  pub edition : ℕ
   pub keys : Keys
   pub amf : Octets
   pub seqhe : ℕ  -- SEQ_HE
@@ -23,8 +24,8 @@ pub record AucShaped (auc : Auc) : Type 0 where
   pub keys : Shaped (auc .keys)
   pub amf : length (auc .amf) ≡ amfSize
 
-abbrev pub newAuc : Keys → (amf : Octets) → Auc
-newAuc keys amf = record { keys = keys; amf = amf; seqhe = 0; next = 0 }
+abbrev pub newAuc : (edition : ℕ) → Keys → (amf : Octets) → Auc
+newAuc edition keys amf = record { edition = edition; keys = keys; amf = amf; seqhe = 0; next = 0 }
 
 -- ---- one vector, of SQN in octets, AMF and RAND
 
@@ -64,13 +65,19 @@ resyncCount count = countOf defaultCount count
 abbrev pub seqAt : (from k : ℕ) → ℕ
 seqAt from k = from + 1 + k
 
--- all vectors of a batch carry the next index
-abbrev pub indAt : Auc → (k : ℕ) → ℕ
-indAt auc k = auc .next
+-- all vectors of a batch carry the next index, or it goes up by 1 for each vector, after the last index to 0
+abbrev pub indAt : Numbering → Auc → (k : ℕ) → ℕ
+indAt m auc k = (auc .next + cond (m .perVector) k 0) % indices (m .width)
 
--- the record after it: SEQ_HE becomes the last SEQ; the next index goes up by 1, after the last index to 0
-abbrev pub afterBatch : (w : ℕ) → Auc → (from n : ℕ) → Auc
-afterBatch w auc from n = record { keys = auc .keys; amf = auc .amf; seqhe = from + n; next = (auc .next + 1) % indices w }
+-- the record after it: SEQ_HE becomes the last SEQ; the next index has gone up by 1 for the batch, or for each of its vectors
+abbrev pub afterBatch : Numbering → Auc → (from n : ℕ) → Auc
+afterBatch m auc from n = record {
+  edition = auc .edition;
+  keys = auc .keys;
+  amf = auc .amf;
+  seqhe = from + n;
+  next = (auc .next + cond (m .perVector) n 1) % indices (m .width);
+}
 
 -- ---- the earliest pair of equal RANDs (document 01: of equal challenges)
 
@@ -170,14 +177,21 @@ lentFor n rands buffer = eqb rands (randSize * n) && eqb buffer (vectorSize * n)
 unfoldable pub lentAuts : (rand auts : ℕ) → Bool
 lentAuts rand auts = eqb rand randSize && eqb auts autsSize
 
-module _ (w : ℕ) (family : Family) (auc : Auc) where
+module _ (scheme : Scheme) (family : Family) (auc : Auc) where
+  -- the centre counts, and splits SQN_MS, by the record's own edition
+  abbrev m : Numbering
+  m = scheme .numbering (auc .edition)
+
+  abbrev w : ℕ
+  w = m .width
+
   -- the functions of this subscriber
   abbrev F : Functions
   F = family .under (auc .keys)
 
   -- a valid record: refusal 1 does not apply to it
   unfoldable pub validAuc : Bool
-  validAuc = family .known (auc .keys .set) && leb (auc .seqhe) (limit w) && ltb (auc .next) (indices w)
+  validAuc = family .admits (auc .edition) (auc .keys) && leb (auc .seqhe) (limit w) && ltb (auc .next) (indices w)
 
   -- refusals 1 to 4, which order and resynchronisation share; n is the count that results, `lent`: each lent part has the length named
   unfoldable pub unlessRefused : (count n : ℕ) (lent : Bool) (rands : Octets) (rest : Outcome) → Outcome
@@ -196,14 +210,14 @@ module _ (w : ℕ) (family : Family) (auc : Auc) where
 
   -- the vector at place k
   abbrev pub vectorFrom : (from : ℕ) (rands : Octets) (k : ℕ) → Vector
-  vectorFrom from rands k = makeVector F (encode sqnSize (sqnOf w (seqAt from k) (indAt auc k))) (auc .amf) (randAt rands k)
+  vectorFrom from rands k = makeVector F (encode sqnSize (sqnOf w (seqAt from k) (indAt m auc k))) (auc .amf) (randAt rands k)
 
   unfoldable pub batchFrom : (from : ℕ) (rands : Octets) (n : ℕ) → Octets
   batchFrom from rands n = joined (λ k. writeVector (vectorFrom from rands k)) n
 
   -- a batch, and the record after it
   abbrev pub givenWith : (from : ℕ) (rands : Octets) (n : ℕ) → Outcome → AucAnswer
-  givenWith from rands n outcome = record { outcome = outcome; n = n; auc = afterBatch w auc from n; batch = batchFrom from rands n }
+  givenWith from rands n outcome = record { outcome = outcome; n = n; auc = afterBatch m auc from n; batch = batchFrom from rands n }
 
   -- a refusal: record and buffer as they were
   abbrev pub refusedWith : (buffer : Octets) → Outcome → AucAnswer

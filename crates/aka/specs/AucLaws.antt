@@ -22,7 +22,7 @@ use Rattle.aka.specs.Layout.{
   vectorPart,
 }
 use Rattle.aka.specs.Functions.{Keys, Functions, Family, Shaped, Lawful}
-use Rattle.aka.specs.Sequence.{D, sqnBits, indices, limit, seqOf}
+use Rattle.aka.specs.Sequence.{D, Numbering, Scheme, Fitting, widthOf, sqnBits, indices, limit, seqOf}
 use Rattle.aka.specs.Usim.{seqIn, indIn, macRight}
 use Rattle.aka.specs.UsimLaws.{autsOf}
 use Rattle.aka.specs.Auc.{
@@ -68,14 +68,25 @@ pub record PlaceOf (size k n : ℕ) : Type 0 where
   pub most : n ≤ mostVectors
   pub inside : k < n
 
+-- of indices of `w` bits: j is i + 1, after the last index 0
+pub record IndexAfter (w i j : ℕ) : Type 0 where
+  pub next : suc i < indices w → j ≡ suc i
+  pub last : suc i ≡ indices w → j ≡ 0
+
 -- n is the count that results
-module _ (w : ℕ) (family : Family) (auc : Auc) (count n : ℕ) (rands buffer : Octets) where
+module _ (scheme : Scheme) (family : Family) (auc : Auc) (count n : ℕ) (rands buffer : Octets) where
+  abbrev m : Numbering
+  m = scheme .numbering (auc .edition)
+
+  abbrev w : ℕ
+  w = m .width
+
   abbrev F : Functions
   F = family .under (auc .keys)
 
   -- refusals 1, 2 and 4 do not apply
   pub record Asking : Type 0 where
-    pub valid : validAuc w family auc ≡ true
+    pub valid : validAuc scheme family auc ≡ true
     pub count-small : count ≤ mostVectors
     pub unequal-rands : equalPair rands n ≡ unequal
 
@@ -88,23 +99,23 @@ module _ (w : ℕ) (family : Family) (auc : Auc) (count n : ℕ) (rands buffer :
   pub record Sound : Type 0 where
     pub asking : Asking
     pub sizes : BatchSized
-    pub width : w ≤ sqnBits
+    pub fits : Fitting scheme
     pub lawful : Lawful family
     pub keys : Shaped (auc .keys)
     pub amf : length (auc .amf) ≡ amfSize
 
   -- refusals 1 to 4: 'The lowest number that applies is given'; `Named`: each lent part has the length named
   pub record Refuses (Named : Type 0) (answer : AucAnswer) : Type 0 where
-    pub refusal1 : validAuc w family auc ≡ false → answer .outcome ≡ refused 1
-    pub refusal2 : validAuc w family auc ≡ true → mostVectors < count → answer .outcome ≡ refused 2
-    pub refusal3 : validAuc w family auc ≡ true → count ≤ mostVectors → (Named → ⊥) → answer .outcome ≡ refused 3
-    pub refusal4 : (i j : ℕ) → validAuc w family auc ≡ true → count ≤ mostVectors → Named → equalPair rands n ≡ equalAt i j
+    pub refusal1 : validAuc scheme family auc ≡ false → answer .outcome ≡ refused 1
+    pub refusal2 : validAuc scheme family auc ≡ true → mostVectors < count → answer .outcome ≡ refused 2
+    pub refusal3 : validAuc scheme family auc ≡ true → count ≤ mostVectors → (Named → ⊥) → answer .outcome ≡ refused 3
+    pub refusal4 : (i j : ℕ) → validAuc scheme family auc ≡ true → count ≤ mostVectors → Named → equalPair rands n ≡ equalAt i j
         → answer .outcome ≡ repeated i j
     -- in document 01's numbers; 'the answer names the earliest pair'
-    pub number1 : validAuc w family auc ≡ false → refusalOf (answer .outcome) ≡ 1
-    pub number2 : validAuc w family auc ≡ true → mostVectors < count → refusalOf (answer .outcome) ≡ 2
-    pub number3 : validAuc w family auc ≡ true → count ≤ mostVectors → (Named → ⊥) → refusalOf (answer .outcome) ≡ 3
-    pub pair4 : (i j : ℕ) → validAuc w family auc ≡ true → count ≤ mostVectors → Named → equalPair rands n ≡ equalAt i j
+    pub number1 : validAuc scheme family auc ≡ false → refusalOf (answer .outcome) ≡ 1
+    pub number2 : validAuc scheme family auc ≡ true → mostVectors < count → refusalOf (answer .outcome) ≡ 2
+    pub number3 : validAuc scheme family auc ≡ true → count ≤ mostVectors → (Named → ⊥) → refusalOf (answer .outcome) ≡ 3
+    pub pair4 : (i j : ℕ) → validAuc scheme family auc ≡ true → count ≤ mostVectors → Named → equalPair rands n ≡ equalAt i j
         → (refusalOf (answer .outcome) ≡ 4) × (firstOf (answer .outcome) ≡ i) × (secondOf (answer .outcome) ≡ j)
     -- 'is zero, save the pair in 4': of every answer, a batch too
     pub pair0 : (refusalOf (answer .outcome) ≡ 4 → ⊥) → (firstOf (answer .outcome) ≡ 0) × (secondOf (answer .outcome) ≡ 0)
@@ -128,12 +139,18 @@ module _ (w : ℕ) (family : Family) (auc : Auc) (count n : ℕ) (rands buffer :
       -- 'SEQ goes up by 1 for each vector.'
       pub seq : (k : ℕ) → k < n → seqIn w F (vec k .rand) (vec k .autn) ≡ from + 1 + k
       -- 'All vectors of a batch carry the next index, which then goes up by 1, after 31 to 0'
-      pub ind : (k : ℕ) → k < n → indIn w F (vec k .rand) (vec k .autn) ≡ auc .next
-      pub next : suc (auc .next) < indices w → answer .auc .next ≡ suc (auc .next)
-      pub next-last : suc (auc .next) ≡ indices w → answer .auc .next ≡ 0
+      pub ind : m .perVector ≡ false → (k : ℕ) → k < n → indIn w F (vec k .rand) (vec k .autn) ≡ auc .next
+      pub next : m .perVector ≡ false → IndexAfter w (auc .next) (answer .auc .next)
+      -- document 02, #104: 'the index goes up by 1 for every vector, after 63 to 0': from the next index on, and on into the record
+      pub ind-first : m .perVector ≡ true → 0 < n → indIn w F (vec 0 .rand) (vec 0 .autn) ≡ auc .next
+      pub ind-after : m .perVector ≡ true → (k : ℕ) → suc k < n
+          → IndexAfter w (indIn w F (vec k .rand) (vec k .autn)) (indIn w F (vec (suc k) .rand) (vec (suc k) .autn))
+      pub next-after : m .perVector ≡ true → (k : ℕ) → suc k ≡ n
+          → IndexAfter w (indIn w F (vec k .rand) (vec k .autn)) (answer .auc .next)
       -- 'SEQ_HE becomes the last SEQ.'
       pub last : (k : ℕ) → suc k ≡ n → answer .auc .seqhe ≡ seqIn w F (vec k .rand) (vec k .autn)
       -- the rest of the record stays
+      pub same-edition : answer .auc .edition ≡ auc .edition
       pub same-keys : answer .auc .keys ≡ auc .keys
       pub same-amf : answer .auc .amf ≡ auc .amf
 
@@ -145,53 +162,63 @@ module _ (w : ℕ) (family : Family) (auc : Auc) (count n : ℕ) (rands buffer :
 
 -- ---- an order: refusals 1, 2, 3, 4, 6
 
-module _ (w : ℕ) (family : Family) (auc : Auc) (count : ℕ) (rands buffer : Octets) where
+module _ (scheme : Scheme) (family : Family) (auc : Auc) (count : ℕ) (rands buffer : Octets) where
+  -- 'past 4,398,046,511,103 from edition 2': by the record's own edition
+  abbrev orderLimit : ℕ
+  orderLimit = limit (widthOf scheme (auc .edition))
+
   abbrev orderN : ℕ
   orderN = orderCount count
 
   abbrev ordered : AucAnswer
-  ordered = order w family auc count rands buffer
+  ordered = order scheme family auc count rands buffer
 
   abbrev OrderAsking : Type 0
-  OrderAsking = Asking w family auc count orderN rands buffer
+  OrderAsking = Asking scheme family auc count orderN rands buffer
 
   abbrev OrderSized : Type 0
-  OrderSized = BatchSized w family auc count orderN rands buffer
+  OrderSized = BatchSized scheme family auc count orderN rands buffer
 
   pub record OrderLaws : Type 0 where
-    pub refuses : Refuses w family auc count orderN rands buffer OrderSized ordered
+    pub refuses : Refuses scheme family auc count orderN rands buffer OrderSized ordered
     -- 6: 'the last SEQ would pass the limit'
-    pub refusal6 : OrderAsking → OrderSized → limit w < auc .seqhe + orderN → ordered .outcome ≡ refused 6
-    pub number6 : OrderAsking → OrderSized → limit w < auc .seqhe + orderN → refusalOf (ordered .outcome) ≡ 6
+    pub refusal6 : OrderAsking → OrderSized → orderLimit < auc .seqhe + orderN → ordered .outcome ≡ refused 6
+    pub number6 : OrderAsking → OrderSized → orderLimit < auc .seqhe + orderN → refusalOf (ordered .outcome) ≡ 6
     -- otherwise a batch is given
-    pub not-refused : OrderAsking → OrderSized → auc .seqhe + orderN ≤ limit w → ordered .outcome ≡ given
-    pub generates : Sound w family auc count orderN rands buffer → ordered .outcome ≡ given
-        → Generates w family auc count orderN rands buffer (auc .seqhe) ordered
-    pub stays : (refusalOf (ordered .outcome) ≡ 0 → ⊥) → Stays w family auc count orderN rands buffer ordered
+    pub not-refused : OrderAsking → OrderSized → auc .seqhe + orderN ≤ orderLimit → ordered .outcome ≡ given
+    pub generates : Sound scheme family auc count orderN rands buffer → ordered .outcome ≡ given
+        → Generates scheme family auc count orderN rands buffer (auc .seqhe) ordered
+    pub stays : (refusalOf (ordered .outcome) ≡ 0 → ⊥) → Stays scheme family auc count orderN rands buffer ordered
     -- a valid record is followed by a valid record
-    pub stays-valid : validAuc w family auc ≡ true → validAuc w family (ordered .auc) ≡ true
+    pub stays-valid : validAuc scheme family auc ≡ true → validAuc scheme family (ordered .auc) ≡ true
 
 -- ---- a resynchronisation: refusals 1 to 6
 
-module _ (w : ℕ) (family : Family) (auc : Auc) (count : ℕ) (rands buffer rand auts : Octets) where
+module _ (scheme : Scheme) (family : Family) (auc : Auc) (count : ℕ) (rands buffer rand auts : Octets) where
+  abbrev resyncWidth : ℕ
+  resyncWidth = widthOf scheme (auc .edition)
+
+  abbrev resyncLimit : ℕ
+  resyncLimit = limit resyncWidth
+
   abbrev resyncN : ℕ
   resyncN = resyncCount count
 
   abbrev resynced : AucAnswer
-  resynced = resync w family auc count rands buffer rand auts
+  resynced = resync scheme family auc count rands buffer rand auts
 
   abbrev ResyncAsking : Type 0
-  ResyncAsking = Asking w family auc count resyncN rands buffer
+  ResyncAsking = Asking scheme family auc count resyncN rands buffer
 
   -- refusal 3 does not apply to RANDs and buffer, nor to RAND and AUTS
   pub record ResyncSized : Type 0 where
-    pub sizes : BatchSized w family auc count resyncN rands buffer
+    pub sizes : BatchSized scheme family auc count resyncN rands buffer
     pub rand-size : length rand ≡ randSize
     pub auts-size : length auts ≡ autsSize
 
   -- SEQ_MS as AUTS tells it
   abbrev ms : ℕ
-  ms = seqMsIn w (family .under (auc .keys)) rand auts
+  ms = seqMsIn resyncWidth (family .under (auc .keys)) rand auts
 
   abbrev range : Bool
   range = inRange (auc .seqhe) ms resyncN
@@ -201,46 +228,50 @@ module _ (w : ℕ) (family : Family) (auc : Auc) (count : ℕ) (rands buffer ran
   right = macSRight (family .under (auc .keys)) rand auts
 
   abbrev ResyncSound : Type 0
-  ResyncSound = Sound w family auc count resyncN rands buffer
+  ResyncSound = Sound scheme family auc count resyncN rands buffer
 
   abbrev ResyncGenerates : (from : ℕ) → Type 0
-  ResyncGenerates from = Generates w family auc count resyncN rands buffer from resynced
+  ResyncGenerates from = Generates scheme family auc count resyncN rands buffer from resynced
 
   -- 6: 'the last SEQ would pass the limit': from SEQ_HE in range, from SEQ_MS on a reset
   abbrev pub Past : Type 0
-  Past = ((range ≡ true) × (limit w < auc .seqhe + resyncN)) ⊎ ((range ≡ false) × (right ≡ true) × (limit w < ms + resyncN))
+  Past = ((range ≡ true) × (resyncLimit < auc .seqhe + resyncN)) ⊎ ((range ≡ false) × (right ≡ true) × (resyncLimit < ms + resyncN))
 
   pub record ResyncLaws : Type 0 where
-    pub refuses : Refuses w family auc count resyncN rands buffer ResyncSized resynced
+    pub refuses : Refuses scheme family auc count resyncN rands buffer ResyncSized resynced
     -- 'recover SQN_MS', from the AUTS of a card with the same keys; its MAC-S is right
     pub recovered : ResyncSound → length rand ≡ randSize → (sqn : ℕ) → sqn < 2 ^ sqnBits
-        → auts ≡ autsOf (family .under (auc .keys)) sqn rand → (ms ≡ seqOf w sqn) × (right ≡ true)
+        → auts ≡ autsOf (family .under (auc .keys)) sqn rand → (ms ≡ seqOf resyncWidth sqn) × (right ≡ true)
     -- 'In range: batch as usual, MAC-S not looked at.'
-    pub in-range : ResyncAsking → ResyncSized → range ≡ true → auc .seqhe + resyncN ≤ limit w → resynced .outcome ≡ kept
+    pub in-range : ResyncAsking → ResyncSized → range ≡ true → auc .seqhe + resyncN ≤ resyncLimit → resynced .outcome ≡ kept
     pub kept-generates : ResyncSound → resynced .outcome ≡ kept → ResyncGenerates (auc .seqhe)
     -- 'Otherwise MAC-S is verified and SEQ_HE first becomes SEQ_MS.'
-    pub out-of-range : ResyncAsking → ResyncSized → range ≡ false → right ≡ true → ms + resyncN ≤ limit w → resynced .outcome ≡ reset
+    pub out-of-range : ResyncAsking → ResyncSized → range ≡ false → right ≡ true → ms + resyncN ≤ resyncLimit → resynced .outcome ≡ reset
     pub reset-generates : ResyncSound → resynced .outcome ≡ reset → ResyncGenerates ms
     -- 5: 'out of range and MAC-S wrong'
     pub refusal5 : ResyncAsking → ResyncSized → range ≡ false → right ≡ false → resynced .outcome ≡ refused 5
     pub number5 : ResyncAsking → ResyncSized → range ≡ false → right ≡ false → refusalOf (resynced .outcome) ≡ 5
     pub refusal6 : ResyncAsking → ResyncSized → Past → resynced .outcome ≡ refused 6
     pub number6 : ResyncAsking → ResyncSized → Past → refusalOf (resynced .outcome) ≡ 6
-    pub stays : (refusalOf (resynced .outcome) ≡ 0 → ⊥) → Stays w family auc count resyncN rands buffer resynced
+    pub stays : (refusalOf (resynced .outcome) ≡ 0 → ⊥) → Stays scheme family auc count resyncN rands buffer resynced
     -- a valid record is followed by a valid record
-    pub stays-valid : validAuc w family auc ≡ true → validAuc w family (resynced .auc) ≡ true
+    pub stays-valid : validAuc scheme family auc ≡ true → validAuc scheme family (resynced .auc) ≡ true
 
-pub record AucPromise (w : ℕ) (family : Family) : Type 0 where
-  pub orders : (auc : Auc) (count : ℕ) (rands buffer : Octets) → OrderLaws w family auc count rands buffer
-  pub resyncs : (auc : Auc) (count : ℕ) (rands buffer rand auts : Octets) → ResyncLaws w family auc count rands buffer rand auts
+pub record AucPromise (scheme : Scheme) (family : Family) : Type 0 where
+  pub orders : (auc : Auc) (count : ℕ) (rands buffer : Octets) → OrderLaws scheme family auc count rands buffer
+  pub resyncs : (auc : Auc) (count : ℕ) (rands buffer rand auts : Octets) → ResyncLaws scheme family auc count rands buffer rand auts
   -- 'a count of 0 means the default, 5', the most that a batch has
-  pub default-order : (auc : Auc) (rands buffer : Octets) → order w family auc 0 rands buffer ≡ order w family auc mostVectors rands buffer
+  pub default-order : (auc : Auc) (rands buffer : Octets) → order scheme family auc 0 rands buffer ≡ order scheme family auc mostVectors rands buffer
   pub default-resync : (auc : Auc) (rands buffer rand auts : Octets)
-      → resync w family auc 0 rands buffer rand auts ≡ resync w family auc mostVectors rands buffer rand auts
+      → resync scheme family auc 0 rands buffer rand auts ≡ resync scheme family auc mostVectors rands buffer rand auts
   -- refusal 1: 'unknown set, SEQ, index past its range'
-  pub valid : (auc : Auc)
-      → (validAuc w family auc ≡ true) ↔ ((family .known (auc .keys .set) ≡ true) × (auc .seqhe ≤ limit w) × (auc .next < indices w))
-  pub new-valid : (keys : Keys) (amf : Octets) → family .known (keys .set) ≡ true → validAuc w family (newAuc keys amf) ≡ true
+  pub valid : (auc : Auc) → (validAuc scheme family auc ≡ true) ↔ (
+      (family .admits (auc .edition) (auc .keys) ≡ true)
+      × (auc .seqhe ≤ limit (widthOf scheme (auc .edition)))
+      × (auc .next < indices (widthOf scheme (auc .edition)))
+      )
+  pub new-valid : (edition : ℕ) (keys : Keys) (amf : Octets) → family .admits edition keys ≡ true
+      → validAuc scheme family (newAuc edition keys amf) ≡ true
   pub range : (seqhe seqms n : ℕ) → (inRange seqhe seqms n ≡ true) ↔ Range seqhe seqms n
   pub pair : (rands : Octets) (n i j : ℕ) → equalPair rands n ≡ equalAt i j → Earliest rands n i j
   pub no-pair : (rands : Octets) (n : ℕ) → equalPair rands n ≡ unequal

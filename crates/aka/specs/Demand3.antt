@@ -1,5 +1,5 @@
 -- Demand 3: after a synchronisation failure and the resynchronisation that it leads to, the USIM accepts the new batch.
--- Document 01, 'Demand 3 in exact words': its sentences stand beside the definitions. Assumes nothing.
+-- Document 01, 'Demand 3 in exact words': its sentences stand beside the definitions; document 02, #104. Assumes nothing.
 use Prim.Native.Nat.{ℕ, zero, suc, _+_, _-_, _*_, _≤_}
 use mathlib.Core.Bool.{Bool, true, _&&_, cond}
 use mathlib.Core.List.{List, [], _∷_}
@@ -10,7 +10,7 @@ use lib.ListN.{length}
 use Rattle.octets.specs.Octets.{Octets, equal}
 use Rattle.aka.specs.Layout.{Vector, randSize, vectorSize, mostVectors, vectorAt}
 use Rattle.aka.specs.Functions.{Functions, Family, Lawful}
-use Rattle.aka.specs.Sequence.{sqnBits, limit}
+use Rattle.aka.specs.Sequence.{Scheme, Fitting, widthOf, limit}
 use Rattle.aka.specs.Usim.{Usim, UsimShaped, UsimAnswer, accepted, syncFailure, challenge, validUsim, lengthsRight, seqMs, seqIn}
 use Rattle.aka.specs.Auc.{Auc, AucShaped, AucAnswer, unequal, kept, reset, validAuc, resync, resyncCount, equalPair}
 
@@ -77,12 +77,12 @@ vectorSeq w F v = seqIn w F (v .rand) (v .autn)
 
 -- ---- the list of calls
 
-module _ (w : ℕ) (family : Family) (batch : Octets) (n : ℕ) where
+module _ (scheme : Scheme) (family : Family) (batch : Octets) (n : ℕ) where
   abbrev pub answerTo : Usim → (last : Option ℕ) → Call → AnsweredCall
   answerTo usim last call = record {
     place = placeOf batch n last call;
     last = latest (placeOf batch n last call) last;
-    answer = challenge w family usim (call .rand) (call .autn);
+    answer = challenge scheme family usim (call .rand) (call .autn);
   }
 
   -- each call gets the record that the one before returned
@@ -113,28 +113,33 @@ pub record Promised (w : ℕ) (F : Functions) (batch : Octets) (n seqhe : ℕ) (
 -- ---- the statement
 
 -- the parts of both records have their lengths; the types of the code see to that, and the crate `demand3` takes it from them
-pub record Shapes (w : ℕ) (s : Setting) : Type 0 where
-  pub usim : UsimShaped w (s .usim)
+pub record Shapes (scheme : Scheme) (s : Setting) : Type 0 where
+  pub usim : UsimShaped scheme (s .usim)
   pub auc : AucShaped (s .auc)
 
-module _ (w : ℕ) (family : Family) (s : Setting) where
+module _ (scheme : Scheme) (family : Family) (s : Setting) where
+  -- the width of the card's index
+  abbrev pub w : ℕ
+  w = widthOf scheme (s .usim .edition)
+
   -- the count that results
   abbrev pub n : ℕ
   n = resyncCount (s .count)
 
   -- the USIM's answer to the challenge
   abbrev pub failure : UsimAnswer
-  failure = challenge w family (s .usim) (s .rand) (s .autn)
+  failure = challenge scheme family (s .usim) (s .rand) (s .autn)
 
   -- the AuC's answer to its AUTS
   abbrev pub resynced : AucAnswer
-  resynced = resync w family (s .auc) (s .count) (s .rands) (s .buffer) (s .rand) (failure .auts)
+  resynced = resync scheme family (s .auc) (s .count) (s .rands) (s .buffer) (s .rand) (failure .auts)
 
   pub record Premise : Type 0 where
     -- valid records
-    pub usim-valid : validUsim w family (s .usim) ≡ true
-    pub auc-valid : validAuc w family (s .auc) ≡ true
-    -- the same set, K and OPc
+    pub usim-valid : validUsim scheme family (s .usim) ≡ true
+    pub auc-valid : validAuc scheme family (s .auc) ≡ true
+    -- the same edition, set, K and OPc
+    pub same-edition : s .auc .edition ≡ s .usim .edition
     pub same-keys : s .auc .keys ≡ s .usim .keys
     -- count, lent parts and RANDs are as named: refusals 2, 3 and 4 do not apply
     pub count : s .count ≤ mostVectors
@@ -149,7 +154,7 @@ module _ (w : ℕ) (family : Family) (s : Setting) where
 
   -- the list starts from the record that the synchronisation failure left
   abbrev pub answered : List Call → List AnsweredCall
-  answered calls = answersTo w family (resynced .batch) n (failure .usim) none calls
+  answered calls = answersTo scheme family (resynced .batch) n (failure .usim) none calls
 
   pub record Conclusion : Type 0 where
     -- the AuC sends a batch
@@ -158,7 +163,7 @@ module _ (w : ℕ) (family : Family) (s : Setting) where
     pub all : (calls : List Call) → Each OtherNotAccepted (answered calls)
         → Each (Promised w (family .under (s .usim .keys)) (resynced .batch) n (resynced .auc .seqhe)) (answered calls)
 
--- for every width of the index, every lawful family, and every setting that meets the premise
+-- for every scheme of editions, whatever the width of an index, every lawful family, and every setting that meets the premise
 abbrev pub Demand3 : Type 0
-Demand3 = (w : ℕ) → w ≤ sqnBits → (family : Family) → Lawful family
-    → (s : Setting) → Shapes w s → Premise w family s → Conclusion w family s
+Demand3 = (scheme : Scheme) → Fitting scheme → (family : Family) → Lawful family
+    → (s : Setting) → Shapes scheme s → Premise scheme family s → Conclusion scheme family s

@@ -26,9 +26,9 @@ pub record Functions : Type 0 where
 abbrev pub dummyAmf : Octets
 dummyAmf = zeros amfSize
 
--- a family of function sets: which sets are known, and the functions under a subscriber's keys
+-- a family of function sets: which keys a record of an edition may hold (an unknown edition or set: none), and the functions under them
 pub record Family : Type 0 where
-  pub known : ℕ → Bool
+  pub admits : (edition : ℕ) → Keys → Bool
   pub under : Keys → Functions
 
 -- ---- the laws of a family. The protocol uses nothing else of it.
@@ -51,7 +51,7 @@ pub record Lengths (F : Functions) : Type 0 where
   pub f5* : (rand : Octets) → length rand ≡ randSize → length (F .f5* rand) ≡ sqnSize
 
 pub record Lawful (family : Family) : Type 0 where
-  pub lengths : (keys : Keys) → family .known (keys .set) ≡ true → Shaped keys → Lengths (family .under keys)
+  pub lengths : (edition : ℕ) (keys : Keys) → family .admits edition keys ≡ true → Shaped keys → Lengths (family .under keys)
   -- AK consists of octets where K, OPc and RAND do
-  pub octets : (keys : Keys) (rand : Octets) → family .known (keys .set) ≡ true → Shaped keys → length rand ≡ randSize
-      → Below 256 (keys .k) → Below 256 (keys .opc) → Below 256 rand → Below 256 (family .under keys .f5 rand)
+  pub octets : (edition : ℕ) (keys : Keys) (rand : Octets) → family .admits edition keys ≡ true → Shaped keys
+      → length rand ≡ randSize → Below 256 (keys .k) → Below 256 (keys .opc) → Below 256 rand → Below 256 (family .under keys .f5 rand)

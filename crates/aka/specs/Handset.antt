@@ -10,6 +10,7 @@ use lib.ListN.{length}
 use Rattle.octets.specs.Octets.{Octets, zeros, part, equal}
 use Rattle.aka.specs.Layout.{randSize, autnSize, autsSize, answerSize, writeAnswer, answerAt, storeSize}
 use Rattle.aka.specs.Functions.{Family}
+use Rattle.aka.specs.Sequence.{Scheme}
 use Rattle.aka.specs.Usim.{Usim, UsimAnswer, challenge}
 use Rattle.aka.specs.Usim as card
 
@@ -82,10 +83,10 @@ nothingShown usim store fresh outcome auts = record {
 }
 
 -- a challenge at the handset, with the card that is in it
-module _ (w : ℕ) (family : Family) (usim : Usim) (store : Store) (rand autn fresh : Octets) where
+module _ (scheme : Scheme) (family : Family) (usim : Usim) (store : Store) (rand autn fresh : Octets) where
   -- what the card says when it is asked
   abbrev asked : UsimAnswer
-  asked = challenge w family usim rand autn
+  asked = challenge scheme family usim rand autn
 
   abbrev given : Octets
   given = writeAnswer (asked .res) (asked .ck) (asked .ik)

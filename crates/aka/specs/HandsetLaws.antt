@@ -8,6 +8,7 @@ use lib.ListN.{length}
 use Rattle.octets.specs.Octets.{Octets, zeros, part}
 use Rattle.aka.specs.Layout.{autsSize}
 use Rattle.aka.specs.Functions.{Family, Lawful, Shaped}
+use Rattle.aka.specs.Sequence.{Scheme}
 use Rattle.aka.specs.Usim.{Usim, UsimAnswer, challenge}
 use Rattle.aka.specs.Usim as card
 use Rattle.aka.specs.Handset.{Store, repeats, refusalOf, handedOn, HandsetAnswer, nothingShown, challenged, told, inOrder, clear}
@@ -22,13 +23,13 @@ pub record LengthsNamed (store : Store) (rand autn fresh : Octets) : Type 0 wher
   pub stored-size : length (store .octets) ≡ 56
   pub fresh-size : length fresh ≡ 40
 
-module _ (w : ℕ) (family : Family) (usim : Usim) (store : Store) (rand autn fresh : Octets) where
+module _ (scheme : Scheme) (family : Family) (usim : Usim) (store : Store) (rand autn fresh : Octets) where
   abbrev answer : HandsetAnswer
-  answer = challenged w family usim store rand autn fresh
+  answer = challenged scheme family usim store rand autn fresh
 
   -- the card's answer, if it is asked
   abbrev asked : UsimAnswer
-  asked = challenge w family usim rand autn
+  asked = challenge scheme family usim rand autn
 
   abbrev keys : Octets
   keys = asked .res ++ (asked .ck ++ asked .ik)
@@ -70,8 +71,8 @@ module _ (w : ℕ) (family : Family) (usim : Usim) (store : Store) (rand autn fr
 
 -- ---- all of it
 
-pub record HandsetPromise (w : ℕ) (family : Family) : Type 0 where
-  pub laws : (usim : Usim) (store : Store) (rand autn fresh : Octets) → HandsetLaws w family usim store rand autn fresh
+pub record HandsetPromise (scheme : Scheme) (family : Family) : Type 0 where
+  pub laws : (usim : Usim) (store : Store) (rand autn fresh : Octets) → HandsetLaws scheme family usim store rand autn fresh
   -- 'unheld, no RAND matches'
   pub unheld : (octets rand : Octets) → repeats (record { held = false; octets = octets }) rand ≡ false
   pub held : (octets rand : Octets) → (repeats (record { held = true; octets = octets }) rand ≡ true) ↔ (part 0 16 octets ≡ rand)
@@ -81,4 +82,4 @@ pub record HandsetPromise (w : ℕ) (family : Family) : Type 0 where
   pub clear-refusal3 : (store : Store) → (length (store .octets) ≡ 56 → ⊥) → clear store ≡ record { refusal = 3; store = store }
   -- answer, shown and keep, one after the other, make the whole answer
   pub in-order : Lawful family → (usim : Usim) → Shaped (usim .keys) → (store : Store) (rand autn fresh : Octets)
-      → inOrder (told (challenged w family usim store rand autn fresh)) store rand ≡ challenged w family usim store rand autn fresh
+      → inOrder (told (challenged scheme family usim store rand autn fresh)) store rand ≡ challenged scheme family usim store rand autn fresh

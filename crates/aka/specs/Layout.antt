@@ -1,8 +1,8 @@
 -- How AUTN, AUTS, a vector, a triplet and a handset's answer lie in octets: sizes and places, writing and reading; and the parts of lent
 -- octets. TS 33.102 §6.3.2, §6.3.3 and §6.8; document 01, 'Numbers and records'; document 02, #101 and #102. Assumes nothing.
 use Prim.Native.Nat.{ℕ, zero, suc, _+_, _*_, _/_, _%_}
-use mathlib.Core.Bool.{Bool, _&&_, cond}
-use mathlib.Core.List.{[], _++_}
+use mathlib.Core.Bool.{Bool, true, _&&_, cond}
+use mathlib.Core.List.{List, [], _∷_, _++_}
 use mathlib.Core.Option.{Option, none, some}
 use lib.Dec.{eqb, ltb, leb}
 use lib.ListN.{length}
@@ -180,6 +180,12 @@ answerAt = randSize
 
 abbrev pub storeSize : ℕ  -- 56
 storeSize = answerAt + answerSize
+
+-- ---- octets, or places of a card, that hold nothing
+
+unfoldable pub allZero : List ℕ → Bool
+allZero [] = true
+allZero (x ∷ rest) = eqb x 0 && allZero rest
 
 -- ---- lent octets: RANDs and a batch, one behind the other; places count from 0
 

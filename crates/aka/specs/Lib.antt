@@ -2,13 +2,16 @@
 -- this order:
 --   Layout      octets of AUTN, AUTS, a vector and a triplet; parts of lent octets
 --   Functions   f1 to f5*, the keys, and the laws of a family of function sets
---   Sequence    SQN, SEQ, IND, the limit, D
+--   Sequence    SQN, SEQ, IND, the limit, D, numberings
+--   Editions    the editions of the records: the table that all that depends on an edition goes through (document 02, #104)
 --   Usim        the card: its record and its answer to a challenge
 --   Auc         the centre: its record, an order, a resynchronisation
 --   Triplets    vectors made into triplets, for GSM phones (document 02, #102)
 --   Vlr         the node: its record and its nine operations
 --   Calls       the nine operations of the node as one
 --   Demand3     after a synchronisation failure and a resynchronisation the USIM accepts the new batch
+--   Runs        a card and a centre over a run of calls: what was given, what was accepted
+--   Window      each of the last 50 numbers generated is still accepted (document 02, #104)
 --   Table       the worked table of document 01
 --   UsimLaws, AucLaws, VlrLaws    the other sentences of document 01 on card, centre and node, as laws
 --   OrderOfUse  over every list of calls the node uses each vector and triplet once, oldest first, and holds what was stored and not used
@@ -20,7 +23,7 @@
 -- How to read a definition. `f : A → B` says that f takes an A and gives a B; `f a b` applies it; `λ x. e` is the function that gives e
 -- for x; `let x = a in e` is e with x standing for a. `pub`, `abbrev` and `unfoldable` only say who may use and open a definition. A
 -- `data` type is one of the cases that it lists. A `record` has named fields: `record { field = a; .. }` makes one and `r .field` reads
--- it. Both are declared `: Type 0`, which is what the library calls a type. `module _ (w : ℕ) ..` fixes what the definitions under it
+-- it. Both are declared `: Type 0`, which is what the library calls a type. `module _ (x : ℕ) ..` fixes what the definitions under it
 -- share: outside they take it first.
 --   Numbers (`ℕ`) are whole and not negative: `-` stops at 0, `/` and `%` are quotient and remainder, `^` is a power, `max` the larger
 -- of two; `suc n` is n + 1 and `zero` is 0, where a definition goes by them. A width, a size, a count, a SEQ, an octet: all are
@@ -39,12 +42,15 @@
 pub mod Layout
 pub mod Functions
 pub mod Sequence
+pub mod Editions
 pub mod Usim
 pub mod Auc
 pub mod Triplets
 pub mod Vlr
 pub mod Calls
 pub mod Demand3
+pub mod Runs
+pub mod Window
 pub mod Table
 pub mod UsimLaws
 pub mod AucLaws

@@ -11,6 +11,7 @@ use lib.ListN.{length}
 use Rattle.octets.specs.Octets.{Octets, zeros, part}
 use Rattle.aka.specs.Layout.{randSize, autsSize, storeSize}
 use Rattle.aka.specs.Functions.{Family, Shaped, Lawful}
+use Rattle.aka.specs.Sequence.{Scheme}
 use Rattle.aka.specs.Usim.{Usim, challenge}
 use Rattle.aka.specs.Handset.{Store, answerIn, Outcome, HandsetAnswer, challenged, nothingShown, Written, clear, handedOn}
 use Rattle.aka.specs.Handset.{repeated, accepted, macFailure, syncFailure, refused}
@@ -105,13 +106,13 @@ pub record Clears (store : Store) (a : Written) : Type 0 where
   pub wrong : (length (store .octets) ≡ storeSize → ⊥) → a ≡ record { refusal = 3; store = store }
 
 -- a challenge
-module _ (w : ℕ) (family : Family) where
+module _ (scheme : Scheme) (family : Family) where
   pub record Meets (kept : Option Kept) (c : Challenge) (store : Store) (a : HandsetAnswer) : Type 0 where
     -- the RAND that is kept, whatever AUTN and the card are
     pub again : Named c store → (answer : Octets) → Again kept c answer → a ≡ repetition answer c store
     -- any other RAND, and every RAND where nothing is kept: the card decides, and nothing is repeated
     pub other : Named c store → ((answer : Octets) → Again kept c answer → ⊥)
-        → a .outcome ≡ handedOn (challenge w family (c .usim) (c .rand) (c .autn) .verdict)
+        → a .outcome ≡ handedOn (challenge scheme family (c .usim) (c .rand) (c .autn) .verdict)
     -- a refusal changes nothing
     pub wrong : (Named c store → ⊥) → a ≡ nothingShown (c .usim) store (c .fresh) (refused 3) (zeros autsSize)
 
@@ -140,7 +141,7 @@ module _ (w : ℕ) (family : Family) where
   -- ---- the list of calls on one store
 
   abbrev pub handle : Store → Call → Handled
-  handle store (challenging c) = answered c store (challenged w family (c .usim) store (c .rand) (c .autn) (c .fresh))
+  handle store (challenging c) = answered c store (challenged scheme family (c .usim) store (c .rand) (c .autn) (c .fresh))
   handle store clearing = cleared store (clear store)
 
   -- each call is lent the store that the one before left
@@ -181,19 +182,19 @@ unfoldable pub only : {A : Type 0} → Domain → List (On A) → List A
 only d [] = []
 only d (x ∷ rest) = cond (isSame d (x .domain)) (x .what ∷ only d rest) (only d rest)
 
-module _ (w : ℕ) (family : Family) where
+module _ (scheme : Scheme) (family : Family) where
   -- each call is lent the store of its domain
   unfoldable pub together : Phone → List (On Call) → List (On Handled)
   together phone [] = []
   together phone (x ∷ rest) =
-      let h = handle w family (storeIn (x .domain) phone) (x .what) in
+      let h = handle scheme family (storeIn (x .domain) phone) (x .what) in
       record { domain = x .domain; what = h } ∷ together (withStore (x .domain) (storeAfter h) phone) rest
 
   pub record Conclusion (phone : Phone) (handled : List (On Handled)) (calls : List (On Call)) : Type 0 where
     -- on either store each call is as promised
-    pub each : (d : Domain) → Repeats w family (heldIn (storeIn d phone)) (only d handled)
+    pub each : (d : Domain) → Repeats scheme family (heldIn (storeIn d phone)) (only d handled)
     -- what is done on one store does not change what the other answers
-    pub apart : (d : Domain) → only d handled ≡ alone w family (storeIn d phone) (only d calls)
+    pub apart : (d : Domain) → only d handled ≡ alone scheme family (storeIn d phone) (only d calls)
 
   -- for every phone and every list of calls on it, with any cards
   abbrev pub RepeatedChallenge : Type 0

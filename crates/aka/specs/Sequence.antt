@@ -1,13 +1,11 @@
--- Sequence numbers: SQN has 48 bits, SEQ above IND. Definitions and theorems take any width `w` of IND in bits. Assumes nothing.
-use Prim.Native.Nat.{ℕ, _+_, _-_, _*_, _/_, _%_, _^_, _<_}
+-- Sequence numbers: SQN has 48 bits, SEQ above IND. Definitions and theorems take any width `w` of IND in bits, and any scheme of
+-- editions: `Editions` has ours. Assumes nothing.
+use Prim.Native.Nat.{ℕ, _+_, _-_, _*_, _/_, _%_, _^_, _≤_, _<_}
+use mathlib.Core.Bool.{Bool}
 
 -- the largest jump
 abbrev pub D : ℕ
 D = 268435456
-
--- the width of IND in bits in document 01: the code runs at this one
-abbrev pub width : ℕ
-width = 5
 
 -- the bits of an SQN
 abbrev pub sqnBits : ℕ
@@ -39,3 +37,23 @@ module _ (w : ℕ) where
 
   abbrev pub indOf : ℕ → ℕ
   indOf sqn = sqn % indices
+
+-- ---- numbers by edition (document 02, #104)
+
+-- how the numbers of a batch are made
+pub record Numbering : Type 0 where
+  pub width : ℕ  -- of IND, in bits
+  pub perVector : Bool  -- IND goes up for each vector; else all vectors of a batch have the same, and it goes up for each batch
+
+-- what the protocol sees of the editions: each record carries the number of its own
+pub record Scheme : Type 0 where
+  pub numbering : (edition : ℕ) → Numbering
+  pub places : ℕ  -- of every card
+
+abbrev pub widthOf : Scheme → (edition : ℕ) → ℕ
+widthOf scheme edition = scheme .numbering edition .width
+
+-- an SQN has room for the index, and each index has a place
+pub record Fitting (scheme : Scheme) : Type 0 where
+  pub width : (edition : ℕ) → widthOf scheme edition ≤ sqnBits
+  pub places : (edition : ℕ) → indices (widthOf scheme edition) ≤ scheme .places

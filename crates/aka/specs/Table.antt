@@ -1,15 +1,16 @@
 -- The worked table of document 01 as one statement: eight challenges to a USIM ('What the card does'), four resynchronisations and
--- two orders ('What the centre does'). At document 01's width of the index; for every lawful family, and whatever the keys, AMF and RANDs
--- are. Assumes nothing.
+-- two orders ('What the centre does'). Of edition 1, document 01's; for every lawful family, and whatever the keys, AMF and RANDs are.
+-- Assumes nothing.
 use Prim.Native.Nat.{ℕ, _*_, _<_}
 use mathlib.Core.Bool.{true}
 use mathlib.Core.List.{List}
 use mathlib.Core.Path.{_≡_}
-use lib.ListN.{length, replicate, set}
+use lib.ListN.{length, replicate, set, drop}
 use Rattle.octets.specs.Octets.{Octets, xor, encode}
-use Rattle.aka.specs.Layout.{randSize, amfSize, sqnSize, macSize, vectorSize, writeAutn, vectorAt}
+use Rattle.aka.specs.Layout.{allZero, randSize, amfSize, sqnSize, macSize, vectorSize, writeAutn, vectorAt}
 use Rattle.aka.specs.Functions.{Keys, Functions, Family, Shaped, Lawful, dummyAmf}
-use Rattle.aka.specs.Sequence.{indices, sqnOf, width}
+use Rattle.aka.specs.Sequence.{widthOf, indices, sqnOf}
+use Rattle.aka.specs.Editions.{editions, cardPlaces}
 use Rattle.aka.specs.Usim.{Usim, UsimAnswer, accepted, macFailure, syncFailure, challenge, makeAuts, highest, sqnMs}
 use Rattle.aka.specs.Auc.{Auc, AucAnswer, unequal, given, kept, reset, refused, equalPair, makeAutn, order, resync}
 use Rattle.aka.specs.Demand3.{vectorSeq}
@@ -25,17 +26,25 @@ pub record Sample : Type 0 where
   pub rands : Octets
   pub buffer : Octets
 
+-- the edition of its records, and the width of their index
+abbrev pub edition : ℕ
+edition = 1
+
+abbrev pub width : ℕ
+width = widthOf editions edition
+
 -- its batches have five vectors
 abbrev pub five : ℕ
 five = 5
 
 -- and what it takes for granted: valid records, nothing to refuse
 pub record Proper (family : Family) (x : Sample) : Type 0 where
-  pub known : family .known (x .keys .set) ≡ true
+  pub admitted : family .admits edition (x .keys) ≡ true
   pub keys : Shaped (x .keys)
   pub amf : length (x .amf) ≡ amfSize
   pub rand : length (x .rand) ≡ randSize
-  pub places100-size : length (x .places100) ≡ indices width
+  pub places100-size : length (x .places100) ≡ cardPlaces
+  pub places100-tail : allZero (drop (indices width) (x .places100)) ≡ true
   pub places100-highest : highest (x .places100) ≡ 100
   pub next : x .next < indices width
   pub rands : length (x .rands) ≡ randSize * five
@@ -44,7 +53,7 @@ pub record Proper (family : Family) (x : Sample) : Type 0 where
 
 -- all 0
 abbrev pub new : List ℕ
-new = replicate (indices width) 0
+new = replicate cardPlaces 0
 
 -- place 3 is 10, rest 0
 abbrev pub used : List ℕ
@@ -55,32 +64,32 @@ module _ (family : Family) (x : Sample) where
   F = family .under (x .keys)
 
   abbrev pub usimWith : (places : List ℕ) → Usim
-  usimWith places = record { keys = x .keys; places = places }
+  usimWith places = record { edition = edition; keys = x .keys; places = places }
 
   abbrev pub sqnWith : (seq ind : ℕ) → Octets
   sqnWith seq ind = encode sqnSize (sqnOf width seq ind)
 
   -- the answer to a challenge with SEQ, IND and a right MAC
   abbrev pub asked : (places : List ℕ) (seq ind : ℕ) → UsimAnswer
-  asked places seq ind = challenge width family (usimWith places) (x .rand) (makeAutn F (sqnWith seq ind) (x .amf) (x .rand))
+  asked places seq ind = challenge editions family (usimWith places) (x .rand) (makeAutn F (sqnWith seq ind) (x .amf) (x .rand))
 
   -- the answer to the same challenge with this MAC
   abbrev pub askedWith : (mac : Octets) (places : List ℕ) (seq ind : ℕ) → UsimAnswer
   askedWith mac places seq ind =
-      challenge width family (usimWith places) (x .rand)
+      challenge editions family (usimWith places) (x .rand)
       (writeAutn (record { concealed = xor (sqnWith seq ind) (F .f5 (x .rand)); amf = x .amf; mac = mac }))
 
   abbrev pub aucWith : (seqhe : ℕ) → Auc
-  aucWith seqhe = record { keys = x .keys; amf = x .amf; seqhe = seqhe; next = x .next }
+  aucWith seqhe = record { edition = edition; keys = x .keys; amf = x .amf; seqhe = seqhe; next = x .next }
 
   -- an order of five
   abbrev pub ordered : (seqhe : ℕ) → AucAnswer
-  ordered seqhe = order width family (aucWith seqhe) five (x .rands) (x .buffer)
+  ordered seqhe = order editions family (aucWith seqhe) five (x .rands) (x .buffer)
 
   -- a resynchronisation with the AUTS of the USIM whose SEQ_MS is 100
   abbrev pub resynced : (seqhe : ℕ) → AucAnswer
   resynced seqhe =
-      resync width family (aucWith seqhe) five (x .rands) (x .buffer) (x .rand)
+      resync editions family (aucWith seqhe) five (x .rands) (x .buffer) (x .rand)
       (makeAuts F (encode sqnSize (sqnMs width (usimWith (x .places100)))) dummyAmf (x .rand))
 
   abbrev pub firstSeq : AucAnswer → ℕ

@@ -1,30 +1,31 @@
 -- The USIM (document 01: card): its record, and its whole answer to a challenge of any octets.
 -- TS 33.102 §6.3.3, in the order of its figure 9, and Annex C.2, where document 01 has a place for each index in place of a list; document
--- 01, 'What the card does'. `w` is the width of the index IND in bits. Assumes nothing.
+-- 01, 'What the card does'; document 02, #104. `w` is the width of the index IND in bits. Assumes nothing.
 use Prim.Native.Nat.{ℕ, suc, _-_, max}
 use mathlib.Core.Bool.{Bool, true, _&&_, _||_, not, cond}
 use mathlib.Core.List.{List, [], _∷_}
 use mathlib.Core.Path.{_≡_}
 use lib.Dec.{eqb, ltb, leb}
-use lib.ListN.{length, getD, replicate, set}
+use lib.ListN.{length, getD, replicate, set, drop}
 use Rattle.octets.specs.Octets.{Octets, zeros, xor, equal, encode, decode}
-use Rattle.aka.specs.Layout.{randSize, autnSize, resSize, ckSize, ikSize, sqnSize, autsSize, readAutn, writeAuts}
+use Rattle.aka.specs.Layout.{randSize, autnSize, resSize, ckSize, ikSize, sqnSize, autsSize, allZero, readAutn, writeAuts}
 use Rattle.aka.specs.Functions.{Keys, Shaped, Functions, Family, dummyAmf}
-use Rattle.aka.specs.Sequence.{D, indices, limit, sqnOf, seqOf, indOf}
+use Rattle.aka.specs.Sequence.{D, Scheme, widthOf, indices, limit, sqnOf, seqOf, indOf}
 
 -- the card's record
 pub record Usim : Type 0 where
+  pub edition : ℕ
   pub keys : Keys
-  pub places : List ℕ  -- document 01: the thirty-two places of the card; a SEQ for each index
+  pub places : List ℕ  -- document 01: the places of the card; a SEQ for each index of its edition, and zeros behind them
 
--- K and OPc have their length, and there is a place for each index (the code's types see to it)
-pub record UsimShaped (w : ℕ) (usim : Usim) : Type 0 where
+-- K and OPc have their length, and there are as many places as in every card (the code's types see to it)
+pub record UsimShaped (scheme : Scheme) (usim : Usim) : Type 0 where
   pub keys : Shaped (usim .keys)
-  pub places : length (usim .places) ≡ indices w
+  pub places : length (usim .places) ≡ scheme .places
 
 -- all places 0
-abbrev pub newUsim : (w : ℕ) → Keys → Usim
-newUsim w keys = record { keys = keys; places = replicate (indices w) 0 }
+abbrev pub newUsim : Scheme → (edition : ℕ) → Keys → Usim
+newUsim scheme edition keys = record { edition = edition; keys = keys; places = replicate (scheme .places) 0 }
 
 -- ---- SEQ_MS and SQN_MS (Annex C.2; the counter that AUTS tells)
 
@@ -52,9 +53,13 @@ unfoldable pub allWithin : (most : ℕ) (places : List ℕ) → Bool
 allWithin most [] = true
 allWithin most (p ∷ rest) = leb p most && allWithin most rest
 
--- a valid record: refusal 1 does not apply to it
-unfoldable pub validUsim : (w : ℕ) → Family → Usim → Bool
-validUsim w family usim = family .known (usim .keys .set) && allWithin (limit w) (usim .places)
+-- a valid record: refusal 1 does not apply to it. Each place is within the limit, and those behind the edition's indices are 0
+unfoldable pub validUsim : Scheme → Family → Usim → Bool
+validUsim scheme family usim =
+    let w = widthOf scheme (usim .edition) in
+    family .admits (usim .edition) (usim .keys)
+    && allWithin (limit w) (usim .places)
+    && allZero (drop (indices w) (usim .places))
 
 -- RAND and AUTN have the lengths named: refusal 3 does not apply
 unfoldable pub lengthsRight : (rand autn : Octets) → Bool
@@ -108,7 +113,7 @@ makeAuts F sqn amf rand = writeAuts (record { concealed = xor sqn (F .f5* rand);
 
 -- the one place at IND becomes SEQ
 abbrev pub stored : Usim → (seq ind : ℕ) → Usim
-stored usim seq ind = record { keys = usim .keys; places = set (usim .places) ind seq }
+stored usim seq ind = record { edition = usim .edition; keys = usim .keys; places = set (usim .places) ind seq }
 
 -- nothing is changed and no keys are given
 abbrev pub unchanged : Verdict → Usim → (auts : Octets) → UsimAnswer
@@ -122,7 +127,11 @@ unchanged verdict usim auts = record {
 }
 
 -- a challenge: RAND and AUTN of any octets and any lengths
-module _ (w : ℕ) (family : Family) (usim : Usim) (rand autn : Octets) where
+module _ (scheme : Scheme) (family : Family) (usim : Usim) (rand autn : Octets) where
+  -- the card splits SQN by its own edition
+  abbrev w : ℕ
+  w = widthOf scheme (usim .edition)
+
   -- the functions of this subscriber
   abbrev F : Functions
   F = family .under (usim .keys)
@@ -137,7 +146,7 @@ module _ (w : ℕ) (family : Family) (usim : Usim) (rand autn : Octets) where
   -- before them the lowest refusal that applies
   unfoldable pub verdictOn : Verdict
   verdictOn =
-      cond (not (validUsim w family usim)) (refused 1)
+      cond (not (validUsim scheme family usim)) (refused 1)
       (cond (not (lengthsRight rand autn)) (refused 3)
       judgement)
 

@@ -9,8 +9,8 @@ use lib.ListN.{length, getD}
 use Rattle.octets.specs.Octets.{Octets, Below, zeros, xor, encode}
 use Rattle.aka.specs.Layout.{randSize, autnSize, sqnSize, autsSize}
 use Rattle.aka.specs.Functions.{Keys, Functions, Family, Shaped, Lawful}
-use Rattle.aka.specs.Sequence.{D, sqnBits, indices, limit, seqOf, indOf}
-use Rattle.aka.specs.Usim.{Usim, UsimAnswer, newUsim, challenge, unchanged, validUsim, seqIn, indIn, macRight, seqMs, sqnMs}
+use Rattle.aka.specs.Sequence.{D, Scheme, Fitting, widthOf, indices, limit, seqOf, indOf}
+use Rattle.aka.specs.Usim.{Usim, UsimShaped, UsimAnswer, newUsim, challenge, unchanged, validUsim, seqIn, indIn, macRight, seqMs, sqnMs}
 use Rattle.aka.specs.Usim.{accepted, macFailure, syncFailure, refused, refusalOf}
 
 -- 'AUTS is SQN_MS xor AK* (6), MAC-S (8)': AK* is f5* of RAND, and MAC-S is 'f1* of SQN_MS, RAND and an AMF of two zero bytes'
@@ -19,12 +19,15 @@ autsOf F sqn rand = xor (encode sqnSize sqn) (F .f5* rand) ++ F .f1* (encode sqn
 
 -- ---- one challenge, of any octets
 
-module _ (w : ℕ) (family : Family) (usim : Usim) (rand autn : Octets) where
+module _ (scheme : Scheme) (family : Family) (usim : Usim) (rand autn : Octets) where
+  abbrev w : ℕ
+  w = widthOf scheme (usim .edition)
+
   abbrev F : Functions
   F = family .under (usim .keys)
 
   abbrev answer : UsimAnswer
-  answer = challenge w family usim rand autn
+  answer = challenge scheme family usim rand autn
 
   abbrev seq : ℕ
   seq = seqIn w F rand autn
@@ -39,7 +42,7 @@ module _ (w : ℕ) (family : Family) (usim : Usim) (rand autn : Octets) where
 
   -- no refusal applies
   pub record Unrefused : Type 0 where
-    pub valid : validUsim w family usim ≡ true
+    pub valid : validUsim scheme family usim ≡ true
     pub lengths : LengthsNamed
 
   -- freshness in numbers: SEQ is above the place at IND, and at most SEQ_MS + D
@@ -54,6 +57,7 @@ module _ (w : ℕ) (family : Family) (usim : Usim) (rand autn : Octets) where
 
   -- the next record has SEQ at that one place
   pub record OnePlace : Type 0 where
+    pub edition : answer .usim .edition ≡ usim .edition
     pub keys : answer .usim .keys ≡ usim .keys
     pub size : length (answer .usim .places) ≡ length (usim .places)
     pub place : ind < length (usim .places) → getD (answer .usim .places) ind 0 ≡ seq
@@ -61,12 +65,12 @@ module _ (w : ℕ) (family : Family) (usim : Usim) (rand autn : Octets) where
 
   pub record UsimLaws : Type 0 where
     -- 'The lowest number that applies is given, and only when it applies.'
-    pub refusal1 : validUsim w family usim ≡ false → answer .verdict ≡ refused 1
-    pub refusal3 : validUsim w family usim ≡ true → (LengthsNamed → ⊥) → answer .verdict ≡ refused 3
+    pub refusal1 : validUsim scheme family usim ≡ false → answer .verdict ≡ refused 1
+    pub refusal3 : validUsim scheme family usim ≡ true → (LengthsNamed → ⊥) → answer .verdict ≡ refused 3
     pub not-refused : Unrefused → (number : ℕ) → answer .verdict ≡ refused number → ⊥
     -- in document 01's numbers, 0 for none
-    pub number1 : validUsim w family usim ≡ false → refusalOf (answer .verdict) ≡ 1
-    pub number3 : validUsim w family usim ≡ true → (LengthsNamed → ⊥) → refusalOf (answer .verdict) ≡ 3
+    pub number1 : validUsim scheme family usim ≡ false → refusalOf (answer .verdict) ≡ 1
+    pub number3 : validUsim scheme family usim ≡ true → (LengthsNamed → ⊥) → refusalOf (answer .verdict) ≡ 3
     pub number0 : Unrefused → refusalOf (answer .verdict) ≡ 0
     -- 'First MAC: if it differs, MAC failure.'
     pub mac-wrong : Unrefused → macRight F rand autn ≡ false → answer .verdict ≡ macFailure
@@ -104,19 +108,24 @@ pub record SameAnswer (a b : UsimAnswer) : Type 0 where
   pub ik : a .ik ≡ b .ik
   pub auts : a .auts ≡ b .auts
 
-pub record UsimPromise (w : ℕ) (family : Family) : Type 0 where
-  pub laws : (usim : Usim) (rand autn : Octets) → UsimLaws w family usim rand autn
-  pub sqn-ms : (usim : Usim) → length (usim .places) ≡ indices w → LowestIndex w usim
+pub record UsimPromise (scheme : Scheme) (family : Family) : Type 0 where
+  pub laws : (usim : Usim) (rand autn : Octets) → UsimLaws scheme family usim rand autn
+  pub sqn-ms : Fitting scheme → (usim : Usim) → UsimShaped scheme usim → validUsim scheme family usim ≡ true
+      → LowestIndex (widthOf scheme (usim .edition)) usim
   -- 'Two valid cards alike in set, K and OPc but unlike in their places give one challenge of wrong MAC the same verdict and bytes.'
-  pub alike : (usim usim′ : Usim) (rand autn : Octets) → validUsim w family usim ≡ true → validUsim w family usim′ ≡ true
+  pub alike : (usim usim′ : Usim) (rand autn : Octets) → validUsim scheme family usim ≡ true → validUsim scheme family usim′ ≡ true
       → usim .keys ≡ usim′ .keys → macRight (family .under (usim .keys)) rand autn ≡ false
-      → SameAnswer (challenge w family usim rand autn) (challenge w family usim′ rand autn)
-  -- refusal 1: 'unknown set, SEQ past its range'
-  pub valid : (usim : Usim)
-      → (validUsim w family usim ≡ true) ↔ ((family .known (usim .keys .set) ≡ true) × ((i : ℕ) → getD (usim .places) i 0 ≤ limit w))
+      → SameAnswer (challenge scheme family usim rand autn) (challenge scheme family usim′ rand autn)
+  -- refusal 1: 'unknown set, SEQ past its range'; document 02, #104: 'places 32 to 63 of an edition 1 card are zero, else refusal 1'
+  pub valid : (usim : Usim) → (validUsim scheme family usim ≡ true) ↔ (
+      (family .admits (usim .edition) (usim .keys) ≡ true)
+      × ((i : ℕ) → getD (usim .places) i 0 ≤ limit (widthOf scheme (usim .edition)))
+      × ((i : ℕ) → indices (widthOf scheme (usim .edition)) ≤ i → getD (usim .places) i 0 ≡ 0)
+      )
   -- a new record has SEQ_MS 0 and is valid, and a valid record is followed by a valid record
-  pub new-seq : (keys : Keys) → seqMs (newUsim w keys) ≡ 0
-  pub new-valid : (keys : Keys) → family .known (keys .set) ≡ true → validUsim w family (newUsim w keys) ≡ true
-  pub stays-valid : w ≤ sqnBits → Lawful family → (usim : Usim) (rand autn : Octets) → Shaped (usim .keys)
+  pub new-seq : (edition : ℕ) (keys : Keys) → seqMs (newUsim scheme edition keys) ≡ 0
+  pub new-valid : (edition : ℕ) (keys : Keys) → family .admits edition keys ≡ true
+      → validUsim scheme family (newUsim scheme edition keys) ≡ true
+  pub stays-valid : Fitting scheme → Lawful family → (usim : Usim) (rand autn : Octets) → Shaped (usim .keys)
       → Below 256 (usim .keys .k) → Below 256 (usim .keys .opc) → Below 256 rand → Below 256 autn
-      → validUsim w family usim ≡ true → validUsim w family (challenge w family usim rand autn .usim) ≡ true
+      → validUsim scheme family usim ≡ true → validUsim scheme family (challenge scheme family usim rand autn .usim) ≡ true

@@ -7,6 +7,7 @@ use lib.Dec.{eqb, leb}
 use lib.ListN.{length, getD, take, drop}
 use Rattle.octets.specs.Octets.{Octets, zeros, part, equal}
 use Rattle.aka.specs.Layout.{Vector, Triplet, Kind, vector, triplet, kindSize, kindOctet, itemSize, vectorSize, readVector}
+unfoldable pub use Rattle.aka.specs.Layout.{allZero}
 use Rattle.aka.specs.Layout.{readTriplet, randSize, resSize, ckSize, ikSize, autnSize, autsSize, sresSize, kcSize, mostVectors}
 use Rattle.aka.specs.Layout.{joined}
 
@@ -125,10 +126,6 @@ isResyncing asked = false
 isResyncing resyncing = true
 
 -- ---- refusals
-
-unfoldable pub allZero : Octets → Bool
-allZero [] = true
-allZero (x ∷ rest) = eqb x 0 && allZero rest
 
 -- the octet of this kind, and zeros behind the item
 abbrev pub holds : Kind → (place : Octets) → Bool

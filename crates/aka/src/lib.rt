@@ -3,18 +3,6 @@
 
 // ---- sequence numbers (specs/Sequence)
 
-// The number of indices: SQN = INDICES x SEQ + IND.
-pub const INDICES: u64 = 32;
-
-// The places of the card: one for each index.
-pub const PLACES: usize = INDICES as usize;
-
-// The bits of a SEQ.
-pub const SEQ_BITS: u64 = 43;
-
-// The largest SEQ.
-pub const LIMIT: u64 = 8796093022207;
-
 // The largest jump.
 pub const D: u64 = 268435456;
 

@@ -1,5 +1,5 @@
 -- From what the check of refusals 1 to 4 found to the whole answer. Assumes nothing.
-use Prim.Native.Nat.{ℕ, _*_, _≤_, _<_}
+use Prim.Native.Nat.{ℕ, _*_, _≤_}
 use mathlib.Core.Bool.{Bool, true, _&&_, and-true, and-eq-true-iff}
 use mathlib.Core.Path.{_≡_, refl, sym, ap, subst, _∙_}
 use native.Mathlib.Omega.{arith}
@@ -7,7 +7,8 @@ use lib.ListN.{length}
 use Rattle.octets.specs.Octets.{Octets}
 use Rattle.functions.specs.Sets.{sets}
 use Rattle.aka.specs.Layout.{randSize, vectorSize, mostVectors}
-use Rattle.aka.specs.Sequence.{indices, limit, width}
+use Rattle.aka.specs.Sequence.{widthOf, limit}
+use Rattle.aka.specs.Editions.{editions}
 use Rattle.aka.specs.Auc as aka
 use Rattle.aka.specs.Auc.{orderOutcome, order, resyncOutcome, resync}
 use Rattle.aka.proofs.Batches.{count-le}
@@ -33,8 +34,7 @@ module _ (auc : aka.Auc) (count : ℕ) (rands buffer : Octets) (lent : Bool) whe
   -- where none of them applies
   pub record Asked (m : ℕ) : Type 0 where
     pub few : m ≤ mostVectors
-    pub seqhe : auc .seqhe ≤ limit width
-    pub next : auc .next < indices width
+    pub seqhe : auc .seqhe ≤ limit (widthOf editions (auc .edition))
     pub rands-size : length rands ≡ randSize * m
     pub buffer-size : length buffer ≡ vectorSize * m
     pub rest : lent ≡ true
@@ -43,14 +43,13 @@ module _ (auc : aka.Auc) (count : ℕ) (rands buffer : Octets) (lent : Bool) whe
   asked r m e found =
       let f : Finds (Count m) = subst Finds e found in
       let sizes = aka.lentFor n (length rands) (length buffer) in
-      let p = passes width sets auc count n (sizes && lent) rands aka.given (ap aka.refusalOf (f .1 aka.given)) in
-      let valid = valid-iff width sets auc .0 (p .valid) in
+      let p = passes editions sets auc count n (sizes && lent) rands aka.given (ap aka.refusalOf (f .1 aka.given)) in
+      let valid = valid-iff editions sets auc .0 (p .valid) in
       let both = and-eq-true-iff sizes lent .0 (p .named) in
       let long = lent-iff n (length rands) (length buffer) .0 (both .0) in
       record {
         few = rw (f .0) (count-le aka.defaultCount count (omega arith) (p .small));
         seqhe = valid .1;
-        next = valid .2;
         rands-size = rw (f .0) (long .0);
         buffer-size = rw (f .0) (long .1);
         rest = both .1;
@@ -59,13 +58,13 @@ module _ (auc : aka.Auc) (count : ℕ) (rands buffer : Octets) (lent : Bool) whe
   -- the answer where the batch follows `from`, and `rest` is the outcome behind refusals 1 to 4, both by the count that results
   module _ (from : ℕ → ℕ) (rest : ℕ → aka.Outcome) where
     abbrev with : (k : ℕ) → aka.Outcome → aka.AucAnswer
-    with k o = aka.answerWith width sets auc (from k) rands k buffer o
+    with k o = aka.answerWith editions sets auc (from k) rands k buffer o
 
     pub when-refused : (r : Checked) (o : Outcome) → r ≡ Refused o → Finds r
-        → aka.refusedWith width sets auc buffer (outcomeOf o) ≡ with n (refusals (rest n))
+        → aka.refusedWith editions sets auc buffer (outcomeOf o) ≡ with n (refusals (rest n))
     when-refused r o e found =
         let f : Finds (Refused o) = subst Finds e found in
-        sym (ap (with n) (f .0 (rest n)) ∙ answer-refused width sets auc (from n) rands n buffer (outcomeOf o) (f .1))
+        sym (ap (with n) (f .0 (rest n)) ∙ answer-refused editions sets auc (from n) rands n buffer (outcomeOf o) (f .1))
 
     pub when-asked : (r : Checked) (m : ℕ) → r ≡ Count m → Finds r → with m (rest m) ≡ with n (refusals (rest n))
     when-asked r m e found =
@@ -76,16 +75,16 @@ module _ (auc : aka.Auc) (count : ℕ) (rands buffer : Octets) (lent : Bool) whe
 
 pub order-is : (auc : aka.Auc) (count : ℕ) (rands buffer : Octets) →
     let n = aka.orderCount count in
-    aka.answerWith width sets auc (auc .seqhe) rands n buffer
-    (refusals auc count rands buffer true (aka.unlessPast width sets auc (auc .seqhe) n aka.given))
-    ≡ order width sets auc count rands buffer
+    aka.answerWith editions sets auc (auc .seqhe) rands n buffer
+    (refusals auc count rands buffer true (aka.unlessPast editions sets auc (auc .seqhe) n aka.given))
+    ≡ order editions sets auc count rands buffer
 unfolding order orderOutcome
 order-is auc count rands buffer = rw (and-true (aka.lentFor (aka.orderCount count) (length rands) (length buffer))) refl
 
 pub resync-is : (auc : aka.Auc) (count : ℕ) (rands buffer rand auts : Octets) →
     let n = aka.resyncCount count in
-    aka.answerWith width sets auc (aka.resyncFrom width sets auc rand auts n) rands n buffer
-    (refusals auc count rands buffer (aka.lentAuts (length rand) (length auts)) (aka.autsOutcome width sets auc rand auts n))
-    ≡ resync width sets auc count rands buffer rand auts
+    aka.answerWith editions sets auc (aka.resyncFrom editions sets auc rand auts n) rands n buffer
+    (refusals auc count rands buffer (aka.lentAuts (length rand) (length auts)) (aka.autsOutcome editions sets auc rand auts n))
+    ≡ resync editions sets auc count rands buffer rand auts
 unfolding resync resyncOutcome
 resync-is auc count rands buffer rand auts = refl

@@ -10,7 +10,7 @@ pub use batches::Offset;
 use batches::Series;
 pub use batches::offset_of;
 pub use batches::vector_at;
-ghost use Prim.Native.Nat.{_*_, _≤_, _<_};
+ghost use Prim.Native.Nat.{_*_, _≤_};
 ghost use mathlib.Core.Bool.{cond};
 ghost use mathlib.Core.Path.{_≡_};
 ghost use lib.ListN.{length};
@@ -18,7 +18,8 @@ ghost use Rattle.aes_tables.specs.RoundTable.{IsRoundTable};
 ghost use Rattle.functions.specs.Challenge.{keysOf, IsSchedule};
 ghost use Rattle.functions.specs.Sets.{sets};
 ghost use Rattle.aka.specs.Layout.{randSize, vectorSize, mostVectors};
-ghost use Rattle.aka.specs.Sequence.{width, indices, limit};
+ghost use Rattle.aka.specs.Sequence.{widthOf, limit};
+ghost use Rattle.aka.specs.Editions.{editions};
 ghost use Rattle.aka.specs.Auc.{AucShaped, order as orderOf, resync, kept as keptOf, reset, refusalOf, lentAuts};
 ghost use Rattle.aka.specs.Auc.{unlessPast, answerWith, resyncFrom, autsOutcome};
 ghost use Rattle.auc_record.specs.Views.{aucOf, outcomeOf, answerOf};
@@ -35,21 +36,23 @@ fn generate(
     batch: &mut [u8],
 ) -> Answer
     requires made { ⌜ IsRoundTable (now table) × IsSchedule (keysOf (auc .keys)) (now schedule) ⌝ }
-    requires room { ⌜ (n ≤ mostVectors) × (from ≤ limit width) × (auc .next < indices width) ⌝ }
+    requires room { ⌜ (n ≤ mostVectors) × (from ≤ limit (widthOf editions (auc .edition))) ⌝ }
     requires lent { ⌜ (length (now rands) ≡ randSize * n) × (length (now batch) ≡ vectorSize * n) ⌝ }
     requires given { ⌜ refusalOf (outcomeOf outcome) ≡ 0 ⌝ }
     ensures { λ r. ⌜
         answerOf r (now (batch .exit))
-        ≡ answerWith width sets (aucOf auc) from (now (rands .entry)) n (now (batch .entry))
-        (unlessPast width sets (aucOf auc) from n (outcomeOf outcome))
+        ≡ answerWith editions sets (aucOf auc) from (now (rands .entry)) n (now (batch .entry))
+        (unlessPast editions sets (aucOf auc) from n (outcomeOf outcome))
         ⌝ }
 {
-    if aka::LIMIT < from + (n as u64) {
+    let m = editions::row(auc.edition);
+    if m.limit < from + (n as u64) {
         return auc_record::refused(Outcome::Refused(6), auc);
     }
     let keys = auc.keys;
     let amf = auc.amf;
     let s = Series {
+        edition: auc.edition,
         keys,
         amf,
         from,
@@ -66,7 +69,7 @@ fn generate(
 // The AuC's whole answer to an order.
 pub fn order(auc: Auc, count: u64, rands: &[u8], batch: &mut [u8]) -> Answer
     ensures { λ r. ⌜
-        answerOf r (now (batch .exit)) ≡ orderOf width sets (aucOf auc) count (now (rands .entry)) (now (batch .entry))
+        answerOf r (now (batch .exit)) ≡ orderOf editions sets (aucOf auc) count (now (rands .entry)) (now (batch .entry))
         ⌝ }
 {
     let checked = auc_record::check(auc, aka::DEFAULT_COUNT, count, rands, batch.len(), true);
@@ -109,18 +112,27 @@ fn resume(
     rands: &[u8],
     batch: &mut [u8],
 ) -> Answer
-    requires room { ⌜ (n ≤ mostVectors) × (auc .seqhe ≤ limit width) × (auc .next < indices width) ⌝ }
+    requires room { ⌜ (n ≤ mostVectors) × (auc .seqhe ≤ limit (widthOf editions (auc .edition))) ⌝ }
     requires lent { ⌜ (length (now rands) ≡ randSize * n) × (length (now batch) ≡ vectorSize * n) ⌝ }
     ensures { λ r. ⌜
         answerOf r (now (batch .exit))
-        ≡ answerWith width sets (aucOf auc) (resyncFrom width sets (aucOf auc) rand auts n) (now (rands .entry)) n (now (batch .entry))
-        (autsOutcome width sets (aucOf auc) rand auts n)
+        ≡ answerWith editions sets (aucOf auc) (resyncFrom editions sets (aucOf auc) rand auts n) (now (rands .entry)) n (now (batch .entry))
+        (autsOutcome editions sets (aucOf auc) rand auts n)
         ⌝ }
 {
     let keys = auc.keys;
     let table = aes::round_table();
     let schedule = functions::schedule(keys);
-    let ruling = resynchronisation::decide(&table, &schedule, keys, rand, auts, auc.seqhe, n);
+    let ruling = resynchronisation::decide(
+        &table,
+        &schedule,
+        auc.edition,
+        keys,
+        rand,
+        auts,
+        auc.seqhe,
+        n,
+    );
     if ruling.refused {
         return auc_record::refused(Outcome::Refused(5), auc);
     }
@@ -158,7 +170,7 @@ pub fn resynchronise(
 ) -> Answer
     ensures answer { λ r. ⌜
         answerOf r (now (batch .exit))
-        ≡ resync width sets (aucOf auc) count (now (rands .entry)) (now (batch .entry)) (now (rand .entry)) (now (auts .entry))
+        ≡ resync editions sets (aucOf auc) count (now (rands .entry)) (now (batch .entry)) (now (rand .entry)) (now (auts .entry))
         ⌝ }
     ensures shape { λ _. ⌜ AucShaped (aucOf auc) ⌝ }
 {

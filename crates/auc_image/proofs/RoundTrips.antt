@@ -14,52 +14,86 @@ use Rattle.functions.specs.Sets.{sets}
 use Rattle.aka.specs.Layout.{amfSize, sqnSize}
 use Rattle.aka.specs.Functions.{Family}
 use Rattle.aka.specs.Auc.{Auc, validAuc, AucShaped}
-use Rattle.aka.specs.Sequence.{sqnBits, width, seqBits}
+use Rattle.aka.specs.Sequence.{Scheme, Fitting, widthOf, sqnBits, seqBits}
+use Rattle.aka.specs.Editions.{editions, isEdition}
+use Rattle.aka.proofs.Editions.{fitting}
 use Rattle.aka.proofs.Outcomes.{valid-iff}
-use Rattle.images.specs.Head.{head, headSize, nibble, knownHead}
+use Rattle.images.specs.Head.{head, headSize, editionIn, keysIn, admittedHead}
 use Rattle.images.specs.Images.{RoundTrips}
-use Rattle.images.proofs.Heads.{few-sets, length-head, read-head, known-head, known-set, write-head}
+use Rattle.images.proofs.Heads.{Few, few, known-edition, length-head, read-edition, read-head, admitted-head, write-head}
 use Rattle.images.proofs.RoundTrips as images
 use Rattle.auc_image.specs.RoundTrips.{AucImagePromise}
-use Rattle.auc_image.specs.Image.{amfAt, countersAt, imageSize, bits, image, readImage, format}
+use Rattle.auc_image.specs.Image.{amfAt, countersAt, imageSize, bits, bitsIn, image, readImage, format}
 use Rattle.auc_image.proofs.Bits.{read-first, read-second, first-fits, second-fits, write-bits}
 
 -- ---- the image alone, for any index width that leaves room for SEQ_HE
 
-module _ (w : ℕ) (filled : seqBits w + w ≡ sqnBits) where
+module _ (scheme : Scheme) (fits : Fitting scheme) where
+  abbrev widthAt : Auc → ℕ
+  widthAt auc = widthOf scheme (auc .edition)
+
+  filled : (edition : ℕ) → seqBits (widthOf scheme edition) + widthOf scheme edition ≡ sqnBits
+  filled edition = omega (arith, fits .width edition)
+
   -- SEQ_HE and the next index in octets
   abbrev packed : Auc → Octets
-  packed auc = encode sqnSize (number 2 (bits w auc))
+  packed auc = encode sqnSize (number 2 (bits (widthAt auc) auc))
 
   length-packed : (auc : Auc) → length (packed auc) ≡ sqnSize
-  length-packed auc = length-digits 256 sqnSize (number 2 (bits w auc))
+  length-packed auc = length-digits 256 sqnSize (number 2 (bits (widthAt auc) auc))
 
-  length-image : (auc : Auc) → AucShaped auc → length (image w auc) ≡ imageSize
+  length-image : (auc : Auc) → AucShaped auc → length (image scheme auc) ≡ imageSize
   unfolding image
   length-image auc shaped =
-      simp (length-append, length-digits) (omega (arith, length-head (auc .keys) (shaped .keys), shaped .amf))
+      simp (length-append, length-digits) (omega (arith, length-head (auc .edition) (auc .keys) (shaped .keys), shaped .amf))
 
-  read-image : (auc : Auc) → AucShaped auc → auc .keys .set < nibble → auc .seqhe < 2 ^ seqBits w → auc .next < 2 ^ w
-      → readImage w (image w auc) ≡ auc
-  unfolding image readImage
-  read-image auc shaped few seq index = λ i. record {
-    keys = read-head (auc .keys) (amf ++ packed auc) few (shaped .keys) i;
-    amf = (past first (amf ++ packed auc) amfAt 0 amfSize size ∙ front amf (packed auc) amfSize (shaped .amf)) i;
-    seqhe = read-first (seqBits w) w filled counters (auc .seqhe) (auc .next) seq index last i;
-    next = read-second (seqBits w) w filled counters (auc .seqhe) (auc .next) seq index last i;
+  edition-image : (auc : Auc) → Few (auc .edition) (auc .keys) → editionIn (image scheme auc) ≡ auc .edition
+  unfolding image
+  edition-image auc small = read-edition (auc .edition) (auc .keys) (auc .amf ++ packed auc) small
+
+  admitted-image : (family : Family) (auc : Auc) → AucShaped auc → Few (auc .edition) (auc .keys)
+      → family .admits (auc .edition) (auc .keys) ≡ true → admittedHead family (image scheme auc) ≡ true
+  unfolding image
+  admitted-image family auc shaped small admitted =
+      admitted-head (auc .edition) (auc .keys) (auc .amf ++ packed auc) small family (shaped .keys) admitted
+
+  -- what is read, at the width of the record's edition
+  readAt : (w edition : ℕ) → Octets → Auc
+  readAt w edition x = record {
+    edition = edition;
+    keys = keysIn x;
+    amf = part amfAt amfSize x;
+    seqhe = number 2 (part 0 (seqBits w) (bitsIn x));
+    next = number 2 (part (seqBits w) w (bitsIn x));
   }
+
+  read-image : (auc : Auc) → AucShaped auc → Few (auc .edition) (auc .keys)
+      → auc .seqhe < 2 ^ seqBits (widthAt auc) → auc .next < 2 ^ widthAt auc → readImage scheme (image scheme auc) ≡ auc
+  unfolding image readImage readAt
+  read-image auc shaped small seq index =
+      ap (λ (e : ℕ). readAt (widthOf scheme e) e (image scheme auc)) (edition-image auc small)
+      ∙ (λ i. record {
+        edition = auc .edition;
+        keys = read-head (auc .edition) (auc .keys) (amf ++ packed auc) small (shaped .keys) i;
+        amf = (past first (amf ++ packed auc) amfAt 0 amfSize size ∙ front amf (packed auc) amfSize (shaped .amf)) i;
+        seqhe = read-first (seqBits w) w (filled (auc .edition)) counters (auc .seqhe) (auc .next) seq index last i;
+        next = read-second (seqBits w) w (filled (auc .edition)) counters (auc .seqhe) (auc .next) seq index last i;
+      })
     where
+      w : ℕ
+      w = widthAt auc
+
       first : Octets
-      first = head (auc .keys)
+      first = head (auc .edition) (auc .keys)
 
       amf : Octets
       amf = auc .amf
 
       counters : Octets
-      counters = part countersAt sqnSize (image w auc)
+      counters = part countersAt sqnSize (image scheme auc)
 
       size : length first ≡ headSize
-      size = length-head (auc .keys) (shaped .keys)
+      size = length-head (auc .edition) (auc .keys) (shaped .keys)
 
       last : counters ≡ packed auc
       last =
@@ -67,47 +101,58 @@ module _ (w : ℕ) (filled : seqBits w + w ≡ sqnBits) where
           ∙ past amf (packed auc) amfSize 0 sqnSize (shaped .amf)
           ∙ whole (packed auc) sqnSize (length-packed auc)
 
-  write-image : (family : Family) (x : Octets) → length x ≡ imageSize → Below 256 x → knownHead family x ≡ true
-      → image w (readImage w x) ≡ x
+  write-image : (x : Octets) → length x ≡ imageSize → Below 256 x → image scheme (readImage scheme x) ≡ x
   unfolding image readImage
-  write-image family x size b known =
+  write-image x size b =
+      let w = widthOf scheme (editionIn x) in
       let last = part countersAt sqnSize x in
       let octets = below-part 256 countersAt sqnSize x (omega arith) b in
-      ap₂ (λ (a c : Octets). a ++ (part amfAt amfSize x ++ c)) (write-head family x known (omega arith))
-      (write-bits (seqBits w) w filled last (length-part countersAt sqnSize x (omega arith)) octets)
+      ap₂ (λ (a c : Octets). a ++ (part amfAt amfSize x ++ c)) (write-head x (omega arith))
+      (write-bits (seqBits w) w (filled (editionIn x)) last (length-part countersAt sqnSize x (omega arith)) octets)
       ∙ ap (λ (l : Octets). part 0 headSize x ++ l) (meet amfAt amfSize sqnSize x)
       ∙ meet 0 headSize (amfSize + sqnSize) x
       ∙ whole x imageSize size
 
--- ---- and so for its format, for any family whose known sets have 4 bits
-
-module _ (w : ℕ) (family : Family) (filled : seqBits w + w ≡ sqnBits) (few : (set : ℕ) → family .known set ≡ true → set < nibble) where
-  known-image : (auc : Auc) → family .known (auc .keys .set) ≡ true → knownHead family (image w auc) ≡ true
-  unfolding image
-  known-image auc known = known-head (auc .keys) _ (few (auc .keys .set) known) family known
-
-  valid-read : (x : Octets) → knownHead family x ≡ true → validAuc w family (readImage w x) ≡ true
+  valid-read : (family : Family) (x : Octets) → admittedHead family x ≡ true → validAuc scheme family (readImage scheme x) ≡ true
   unfolding readImage
-  valid-read x known =
+  valid-read family x admitted =
+      let w = widthOf scheme (editionIn x) in
       let last = part countersAt sqnSize x in
-      valid-iff w family (readImage w x) .1
-      (known-set family x known, le-ones (seqBits w) (first-fits (seqBits w) w filled last), second-fits (seqBits w) w filled last)
+      valid-iff scheme family (readImage scheme x) .1 (
+        admitted,
+        le-ones (seqBits w) (first-fits (seqBits w) w (filled (editionIn x)) last),
+        second-fits (seqBits w) w (filled (editionIn x)) last,
+      )
 
-  faithful : images.Faithful (format w family) AucShaped
-  faithful = record {
-    length-image = λ auc shaped valid. length-image w filled auc shaped;
-    known-image = λ auc shaped valid. known-image auc (valid-iff w family auc .0 valid .0);
-    read-image = λ auc shaped valid.
-        let all = valid-iff w family auc .0 valid in
-        read-image w filled auc shaped (few (auc .keys .set) (all .0)) (lt-of-le-ones (seqBits w) (all .1)) (all .2);
-    write-image = write-image w filled family;
-    valid-read = λ x size known. valid-read x known;
-  }
+  edition-read : (x : Octets) → readImage scheme x .edition ≡ editionIn x
+  unfolding readImage
+  edition-read x = refl
 
--- ---- document 01's index width and function sets
+-- ---- and so for our editions and function sets
 
-pub round-trips : RoundTrips (format width sets) AucShaped
-round-trips = images.round-trips (format width sets) AucShaped (faithful width sets refl few-sets)
+faithful : images.Faithful (format editions sets) AucShaped
+faithful = record {
+  good-image = λ auc shaped valid.
+      let admitted = valid-iff editions sets auc .0 valid .0 in
+      let small = few (auc .edition) (auc .keys) admitted in
+      let size = length-image editions fitting auc shaped in
+      record {
+        some = λ e. omega (arith, size, e);
+        known = ap isEdition (edition-image editions fitting auc small) ∙ known-edition (auc .edition) (auc .keys) admitted;
+        size = size;
+        admitted = admitted-image editions fitting sets auc shaped small admitted;
+      };
+  read-image = λ auc shaped valid.
+      let all = valid-iff editions sets auc .0 valid in
+      read-image editions fitting auc shaped (few (auc .edition) (auc .keys) (all .0))
+      (lt-of-le-ones (seqBits (widthOf editions (auc .edition))) (all .1)) (all .2);
+  edition-read = edition-read editions fitting;
+  write-image = λ x good b. write-image editions fitting x (good .size) b;
+  valid-read = λ x good. valid-read editions fitting sets x (good .admitted);
+}
+
+pub round-trips : RoundTrips (format editions sets) AucShaped
+round-trips = images.round-trips (format editions sets) AucShaped faithful
 
 pub promise : AucImagePromise
 promise = record { size = refl; trips = round-trips }

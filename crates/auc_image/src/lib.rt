@@ -9,7 +9,8 @@ ghost use Rattle.octets.specs.Octets.{decode, encode, number, part};
 ghost use Rattle.functions.specs.Sets.{sets};
 ghost use Rattle.aka.specs.Layout.{amfSize, sqnSize};
 ghost use Rattle.aka.specs.Auc.{validAuc};
-ghost use Rattle.aka.specs.Sequence.{width};
+ghost use Rattle.aka.specs.Sequence.{widthOf};
+ghost use Rattle.aka.specs.Editions.{editions};
 ghost use Rattle.auc_record.specs.Views.{aucOf};
 ghost use Rattle.images.specs.Images.{refusedRead, writtenOf, writeAnswer, readAnswer};
 ghost use Rattle.auc_image.specs.Image.{amfAt, bits, countersAt, format, image as imageOf, imageSize, readImage};
@@ -31,10 +32,10 @@ pub struct ReadAnswer {
 
 // SEQ_HE of a valid record above the next index, in six octets.
 fn counters_of(auc: Auc) -> [u8; aka::SQN_SIZE]
-    requires { ⌜ validAuc width sets (aucOf auc) ≡ true ⌝ }
-    ensures { λ r. ⌜ r ≡ encode sqnSize (number 2 (bits width (aucOf auc))) ⌝ }
+    requires { ⌜ validAuc editions sets (aucOf auc) ≡ true ⌝ }
+    ensures { λ r. ⌜ r ≡ encode sqnSize (number 2 (bits (widthOf editions (auc .edition)) (aucOf auc))) ⌝ }
 {
-    tokens::sqn_octets(aka::INDICES * auc.seqhe + auc.next as u64)
+    tokens::sqn_octets(editions::sqn(auc.edition, auc.seqhe, auc.next))
 }
 
 // Puts AMF into an image. What stands before and behind it stays.
@@ -57,14 +58,14 @@ fn put_counters(image: &mut [u8], counters: [u8; aka::SQN_SIZE])
 
 // Fills an image with a valid record.
 fn fill(auc: Auc, image: &mut [u8])
-    requires valid { ⌜ validAuc width sets (aucOf auc) ≡ true ⌝ }
+    requires valid { ⌜ validAuc editions sets (aucOf auc) ≡ true ⌝ }
     requires size { ⌜ length (now image) ≡ imageSize ⌝ }
-    ensures { λ _. ⌜ now (image .exit) ≡ imageOf width (aucOf auc) ⌝ }
+    ensures { λ _. ⌜ now (image .exit) ≡ imageOf editions (aucOf auc) ⌝ }
 {
     let keys = auc.keys;
     let amf = auc.amf;
     let counters = counters_of(auc);
-    images::put_head(image, keys);
+    images::put_head(image, auc.edition, keys);
     put_amf(image, amf);
     put_counters(image, counters);
 }
@@ -72,7 +73,7 @@ fn fill(auc: Auc, image: &mut [u8])
 // Writes the image of `auc`: 0, or the refusal's number, and then the buffer is as it was.
 pub fn write(auc: Auc, buffer: &mut [u8]) -> u8
     ensures { λ r. ⌜
-        writtenOf r (now (buffer .exit)) ≡ writeAnswer (format width sets) (aucOf auc) (now (buffer .entry))
+        writtenOf r (now (buffer .exit)) ≡ writeAnswer (format editions sets) (aucOf auc) (now (buffer .entry))
         ⌝ }
 {
     if !auc_record::is_valid(auc) {
@@ -111,35 +112,45 @@ fn counters_in(image: &[u8]) -> u64
 // The record of an image.
 fn unpack(image: &[u8]) -> Auc
     requires { ⌜ length (now image) ≡ imageSize ⌝ }
-    ensures { λ r. ⌜ aucOf r ≡ readImage width (now (image .entry)) ⌝ }
+    ensures { λ r. ⌜ aucOf r ≡ readImage editions (now (image .entry)) ⌝ }
 {
+    let edition = images::edition_in(image);
+    let m = editions::row(edition);
     let counters = counters_in(image);
     Auc {
+        edition,
         keys: images::keys_in(image),
         amf: amf_in(image),
-        seqhe: counters / aka::INDICES,
-        next: (counters % aka::INDICES) as u8,
+        seqhe: counters / m.indices,
+        next: (counters % m.indices) as u8,
     }
 }
 
 // The answer of a refused reading.
 fn refused_read(number: u8) -> ReadAnswer
-    ensures { λ r. ⌜ readOf r ≡ refusedRead (format width sets) number ⌝ }
+    ensures { λ r. ⌜ readOf r ≡ refusedRead (format editions sets) number ⌝ }
 {
     ReadAnswer {
         refusal: number,
-        auc: auc_record::new(images::no_keys(), [0; aka::AMF_SIZE]),
+        auc: auc_record::new(0, images::no_keys(), [0; aka::AMF_SIZE]),
     }
 }
 
 // Reads an image of any length and contents.
 pub fn read(image: &[u8]) -> ReadAnswer
-    ensures { λ r. ⌜ readOf r ≡ readAnswer (format width sets) (now (image .entry)) ⌝ }
+    ensures { λ r. ⌜ readOf r ≡ readAnswer (format editions sets) (now (image .entry)) ⌝ }
 {
+    if image.len() == 0 {
+        return refused_read(3);
+    }
+    let edition = images::edition_in(image);
+    if !editions::is_known(edition) {
+        return refused_read(1);
+    }
     if image.len() != SIZE {
         return refused_read(3);
     }
-    if !images::known_head(image) {
+    if !functions::admits(edition, images::keys_in(image)) {
         return refused_read(1);
     }
     ReadAnswer {

@@ -11,4 +11,4 @@ use Rattle.auc_record.proofs.Auc as declared
 pub auc-shaped : (auc : code.Auc) (vs : List Val) → Is declared.the-row auc vs → AucShaped (aucOf auc)
 auc-shaped auc vs typed =
     let fields = typed .1 .1 in
-    record { keys = keys-shaped (auc .keys) _ (fields .0); amf = as-long (auc .amf) (fields .1 .0 .1 .0 .1) }
+    record { keys = keys-shaped (auc .keys) _ (fields .1 .0); amf = as-long (auc .amf) (fields .1 .1 .0 .1 .0 .1) }

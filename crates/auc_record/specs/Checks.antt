@@ -6,7 +6,7 @@ use lib.Dec.{eqb}
 use lib.ListN.{length}
 use Rattle.octets.specs.Octets.{Octets}
 use Rattle.functions.specs.Sets.{sets}
-use Rattle.aka.specs.Sequence.{width}
+use Rattle.aka.specs.Editions.{editions}
 use Rattle.aka.specs.Auc as aka
 use Rattle.auc_record.specs.declared.Checked.{Checked}
 use Rattle.auc_record.specs.declared.Checked.the-variants.{Count, Refused}
@@ -16,7 +16,7 @@ use Rattle.auc_record.specs.Views.{outcomeOf}
 abbrev pub firstRefusals : aka.Auc → (default count : ℕ) (rands : Octets) (size : ℕ) (lent : Bool) (rest : aka.Outcome) → aka.Outcome
 firstRefusals auc default count rands size lent rest =
     let n = aka.countOf default count in
-    aka.unlessRefused width sets auc count n (aka.lentFor n (length rands) size && lent) rands rest
+    aka.unlessRefused editions sets auc count n (aka.lentFor n (length rands) size && lent) rands rest
 
 -- none of the refusals applies, and n is the count that results; or the outcome is the refusal's, whatever the rest
 abbrev pub Found : (refusals : aka.Outcome → aka.Outcome) (n : ℕ) → Checked → Type 0

@@ -11,7 +11,7 @@ use Rattle.auc_record.specs.declared.pairs.Pair.the-variants.{Unequal, E
 
 -- the record
 abbrev pub aucOf : declaredAuc.Auc → aka.Auc
-aucOf a = record { keys = keysOf (a .keys); amf = a .amf; seqhe = a .seqhe; next = a .next }
+aucOf a = record { edition = a .edition; keys = keysOf (a .keys); amf = a .amf; seqhe = a .seqhe; next = a .next }
 
 -- the outcome; `aka.refusalOf`, `aka.firstOf` and `aka.secondOf` have its number and its pair
 abbrev pub outcomeOf : Outcome → aka.Outcome

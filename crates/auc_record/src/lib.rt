@@ -4,19 +4,21 @@ mod pairs;
 
 use functions::Keys;
 use pairs::Pair;
-ghost use Prim.Native.Nat.{_+_, _≤_, _<_};
+ghost use Prim.Native.Nat.{_+_, _≤_};
 ghost use mathlib.Core.Path.{_≡_};
 ghost use Rattle.octets.specs.Octets.{Octets};
 ghost use Rattle.functions.specs.Challenge.{keysOf};
 ghost use Rattle.functions.specs.Sets.{sets};
 ghost use Rattle.aka.specs.Layout.{mostVectors};
-ghost use Rattle.aka.specs.Sequence.{width, indices, limit};
+ghost use Rattle.aka.specs.Sequence.{widthOf, limit};
+ghost use Rattle.aka.specs.Editions.{editions};
 ghost use Rattle.aka.specs.Auc.{newAuc, validAuc, countOf, afterBatch, refusedWith};
 ghost use Rattle.auc_record.specs.Views.{aucOf, outcomeOf, answerOf};
 ghost use Rattle.auc_record.specs.Checks.{Found, firstRefusals};
 
 // `seqhe` is SEQ_HE, `next` the next index.
 pub struct Auc {
+    pub edition: u8,
     pub keys: Keys,
     pub amf: [u8; aka::AMF_SIZE],
     pub seqhe: u64,
@@ -46,10 +48,11 @@ pub enum Checked {
 }
 
 // A new record: SEQ_HE and the next index are 0.
-pub fn new(keys: Keys, amf: [u8; aka::AMF_SIZE]) -> Auc
-    ensures { λ r. ⌜ aucOf r ≡ newAuc (keysOf keys) amf ⌝ }
+pub fn new(edition: u8, keys: Keys, amf: [u8; aka::AMF_SIZE]) -> Auc
+    ensures { λ r. ⌜ aucOf r ≡ newAuc edition (keysOf keys) amf ⌝ }
 {
     Auc {
+        edition,
         keys,
         amf,
         seqhe: 0,
@@ -59,37 +62,39 @@ pub fn new(keys: Keys, amf: [u8; aka::AMF_SIZE]) -> Auc
 
 // Whether refusal 1 does not apply.
 pub fn is_valid(auc: Auc) -> bool
-    ensures { λ r. ⌜ r ≡ validAuc width sets (aucOf auc) ⌝ }
+    ensures { λ r. ⌜ r ≡ validAuc editions sets (aucOf auc) ⌝ }
 {
     let keys = auc.keys;
-    if !functions::is_known(keys.set) {
+    if !functions::admits(auc.edition, keys) {
         return false;
     }
-    if aka::LIMIT < auc.seqhe {
+    let m = editions::row(auc.edition);
+    if m.limit < auc.seqhe {
         return false;
     }
-    (auc.next as u64) < aka::INDICES
+    (auc.next as u64) < m.indices
 }
 
 // The answer of a refusal: record and buffer stay as they are.
 pub fn refused(outcome: Outcome, auc: Auc) -> Answer
-    ensures { λ r. ⌜ ((buffer : Octets) → answerOf r buffer ≡ refusedWith width sets (aucOf auc) buffer (outcomeOf outcome)) ⌝ }
+    ensures { λ r. ⌜ ((buffer : Octets) → answerOf r buffer ≡ refusedWith editions sets (aucOf auc) buffer (outcomeOf outcome)) ⌝ }
 {
     Answer { outcome, n: 0, auc }
 }
 
 // The record after a batch of n vectors whose SEQ follow `from`.
 pub fn after_batch(auc: Auc, from: u64, n: u8) -> Auc
-    requires { ⌜ (from + n ≤ limit width) × (auc .next < indices width) ⌝ }
-    ensures { λ r. ⌜ aucOf r ≡ afterBatch width (aucOf auc) from n ⌝ }
+    requires { ⌜ from + n ≤ limit (widthOf editions (auc .edition)) ⌝ }
+    ensures { λ r. ⌜ aucOf r ≡ afterBatch (editions .numbering (auc .edition)) (aucOf auc) from n ⌝ }
 {
     let keys = auc.keys;
     let amf = auc.amf;
     Auc {
+        edition: auc.edition,
         keys,
         amf,
         seqhe: from + (n as u64),
-        next: (((auc.next as u64) + 1) % aka::INDICES) as u8,
+        next: editions::index_after(auc.edition, auc.next, n, 1),
     }
 }
 

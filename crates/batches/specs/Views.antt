@@ -9,7 +9,7 @@ use Rattle.batches.specs.declared.Offset.the-variants.{At, Nowhere}
 
 -- the record that a batch is made from; SEQ_HE is then the number that its SEQ follow
 abbrev pub countedBy : declaredSeries.Series → aka.Auc
-countedBy s = record { keys = keysOf (s .keys); amf = s .amf; seqhe = s .from; next = s .next }
+countedBy s = record { edition = s .edition; keys = keysOf (s .keys); amf = s .amf; seqhe = s .from; next = s .next }
 
 -- where a vector begins, if anywhere
 abbrev pub offsetIn : Offset → Option ℕ

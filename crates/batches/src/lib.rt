@@ -9,13 +9,16 @@ ghost use lib.ListN.{length, take, drop};
 ghost use Rattle.aes_tables.specs.RoundTable.{IsRoundTable};
 ghost use Rattle.functions.specs.Challenge.{keysOf, IsSchedule};
 ghost use Rattle.functions.specs.Sets.{sets};
-ghost use Rattle.aka.specs.Layout.{randSize, vectorSize, mostVectors, writeVector, isBatch, vectorOffset, vectorPart};
-ghost use Rattle.aka.specs.Sequence.{width, indices, limit};
-ghost use Rattle.aka.specs.Auc.{vectorFrom, batchFrom};
+ghost use Rattle.octets.specs.Octets.{encode};
+ghost use Rattle.aka.specs.Layout.{sqnSize, randSize, vectorSize, mostVectors, writeVector, isBatch, vectorOffset, vectorPart};
+ghost use Rattle.aka.specs.Sequence.{widthOf, limit, sqnOf};
+ghost use Rattle.aka.specs.Editions.{editions};
+ghost use Rattle.aka.specs.Auc.{seqAt, indAt, vectorFrom, batchFrom};
 ghost use Rattle.batches.specs.Views.{countedBy, offsetIn, startIn};
 
-// What the vectors of a batch are made with: their SEQ follow `from`, `next` is the index of all.
+// What the vectors of a batch are made with: their SEQ follow `from`, and `next` is the index of the first.
 pub struct Series {
+    pub edition: u8,
     pub keys: Keys,
     pub amf: [u8; aka::AMF_SIZE],
     pub from: u64,
@@ -28,6 +31,20 @@ pub enum Offset {
     Nowhere,
 }
 
+// SQN of the vector at place k.
+fn sqn_at(s: Series, k: u8) -> [u8; aka::SQN_SIZE]
+    requires { ⌜ s .from + 1 + k ≤ limit (widthOf editions (s .edition)) ⌝ }
+    ensures { λ r. ⌜
+        r
+        ≡ encode sqnSize (
+        sqnOf (widthOf editions (s .edition)) (seqAt (s .from) k) (indAt (editions .numbering (s .edition)) (countedBy s) k)
+        )
+        ⌝ }
+{
+    let ind = editions::index_after(s.edition, s.next, k, 0);
+    tokens::sqn_octets(editions::sqn(s.edition, s.from + 1 + (k as u64), ind))
+}
+
 // Puts the vector at place k into the batch. What stands before and behind stays.
 fn put_at(
     table: &[u32; 256],
@@ -38,11 +55,11 @@ fn put_at(
     batch: &mut [u8],
 )
     requires made { ⌜ IsRoundTable (now table) × IsSchedule (keysOf (s .keys)) (now schedule) ⌝ }
-    requires room { ⌜ (s .from + 1 + k ≤ limit width) × (s .next < indices width) ⌝ }
+    requires room { ⌜ s .from + 1 + k ≤ limit (widthOf editions (s .edition)) ⌝ }
     requires lent { ⌜ (randSize * k + randSize ≤ length (now rands)) × (vectorSize * k + vectorSize ≤ length (now batch)) ⌝ }
     ensures { λ _. ⌜
         now (batch .exit)
-        ≡ take (vectorSize * k) (now (batch .entry)) ++ writeVector (vectorFrom width sets (countedBy s) (s .from) (now (rands .entry)) k)
+        ≡ take (vectorSize * k) (now (batch .entry)) ++ writeVector (vectorFrom editions sets (countedBy s) (s .from) (now (rands .entry)) k)
         ++ drop (vectorSize * k + vectorSize) (now (batch .entry))
         ⌝ }
 {
@@ -50,7 +67,7 @@ fn put_at(
     let amf = s.amf;
     let p = aka::RAND_SIZE * (k as usize);
     let rand = octets::sixteen(&rands[p..p + aka::RAND_SIZE]);
-    let sqn = tokens::sqn_octets(aka::INDICES * (s.from + 1 + (k as u64)) + (s.next as u64));
+    let sqn = sqn_at(s, k);
     let c = functions::prepare(table, schedule, keys, rand);
     vectors::put_vector(
         table,
@@ -74,9 +91,9 @@ pub fn fill(
     batch: &mut [u8],
 )
     requires made { ⌜ IsRoundTable (now table) × IsSchedule (keysOf (s .keys)) (now schedule) ⌝ }
-    requires room { ⌜ (n ≤ mostVectors) × (s .from + n ≤ limit width) × (s .next < indices width) ⌝ }
+    requires room { ⌜ (n ≤ mostVectors) × (s .from + n ≤ limit (widthOf editions (s .edition))) ⌝ }
     requires lent { ⌜ (length (now rands) ≡ randSize * n) × (length (now batch) ≡ vectorSize * n) ⌝ }
-    ensures { λ _. ⌜ now (batch .exit) ≡ batchFrom width sets (countedBy s) (s .from) (now (rands .entry)) n ⌝ }
+    ensures { λ _. ⌜ now (batch .exit) ≡ batchFrom editions sets (countedBy s) (s .from) (now (rands .entry)) n ⌝ }
 {
     let mut k: u8 = 0;
     while k < n {

@@ -8,7 +8,7 @@ use Rattle.octets.specs.Octets.{decode}
 use Rattle.functions.specs.Sets.{sets}
 use Rattle.aka.specs.Usim as card
 use Rattle.aka.specs.Vlr as node
-use Rattle.aka.specs.Sequence.{width}
+use Rattle.aka.specs.Editions.{editions}
 use Rattle.usim_record.specs.declared.Verdict.{Verdict}
 use Rattle.usim_record.specs.declared.Verdict.the-variants.{Accepted, Sync, Mac, Refused}
 use Rattle.usim_record.specs.Views.{verdictOf, sqnGiven, sqnDue}
@@ -34,9 +34,9 @@ module _ (desk : Desk) where
 
   -- the challenge is the one that was asked
   module _ {q : node.VlrAnswer} (asked : q ≡ askAnswer desk) where
-    pub card-is : {a : card.UsimAnswer} → a ≡ card.challenge width sets (desk .usim) (q .rand) (q .autn) → a ≡ cardAnswer desk
+    pub card-is : {a : card.UsimAnswer} → a ≡ card.challenge editions sets (desk .usim) (q .rand) (q .autn) → a ≡ cardAnswer desk
     unfolding cardAnswer
-    card-is is = is ∙ ap (λ (q : node.VlrAnswer). card.challenge width sets (desk .usim) (q .rand) (q .autn)) asked
+    card-is is = is ∙ ap (λ (q : node.VlrAnswer). card.challenge editions sets (desk .usim) (q .rand) (q .autn)) asked
 
     pub sqn-is : {v : Verdict} {sqn : ℕ} → v ≡ Accepted sqn → sqnGiven v ≡ sqnDue (verdictOf v) (desk .usim) (q .rand) (q .autn)
         → sqn ≡ sqnAsked desk

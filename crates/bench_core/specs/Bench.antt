@@ -59,7 +59,7 @@ module _ (bench : Bench) where
   -- key: set, K, OPc, AMF, and everything new; an unknown set is refused 1
   unfoldable pub key : Keys → (amf : Octets) → BenchAnswer
   key keys amf =
-      cond (sets .known (keys .set))
+      cond (sets .admits desks.edition keys)
       (record { bench = record { keyed = true; failed = false; desk = desks.newDesk keys amf }; reply = replies.keyOk })
       (record { bench = bench; reply = replies.refused 1 })
 

@@ -69,7 +69,7 @@ fn bad_line(bench: Bench) -> BenchAnswer
 fn key(bench: Bench, keys: Keys, amf: [u8; aka::AMF_SIZE]) -> BenchAnswer
     ensures { λ r. ⌜ benchAnswerOf r ≡ spec.key (benchOf bench) (keysOf keys) amf ⌝ }
 {
-    if !functions::is_known(keys.set) {
+    if !functions::admits(bench_desk::EDITION, keys) {
         return BenchAnswer {
             bench,
             reply: Reply::Refused(1),

@@ -7,7 +7,8 @@ use Rattle.octets.specs.Octets.{Octets, zeros, decode}
 use Rattle.functions.specs.Sets.{sets}
 use Rattle.aka.specs.Functions.{Keys}
 use Rattle.aka.specs.Layout.{vector, randSize, autsSize}
-use Rattle.aka.specs.Sequence.{indices, limit, width}
+use Rattle.aka.specs.Sequence.{widthOf, indices, limit}
+use Rattle.aka.specs.Editions.{editions}
 use Rattle.aka.specs.Usim as card
 use Rattle.aka.specs.Auc as centre
 use Rattle.aka.specs.Vlr as node
@@ -25,11 +26,15 @@ pub record DeskAnswer : Type 0 where
   pub desk : Desk
   pub reply : replies.Reply
 
+-- the edition of the bench's records (document 02, #104)
+abbrev pub edition : ℕ
+edition = 1
+
 -- everything new
 unfoldable pub newDesk : Keys → (amf : Octets) → Desk
 newDesk keys amf = record {
-  usim = card.newUsim width keys;
-  auc = centre.newAuc keys amf;
+  usim = card.newUsim editions edition keys;
+  auc = centre.newAuc edition keys amf;
   vlr = node.newVlr;
   rand = zeros randSize;
   auts = zeros autsSize;
@@ -80,7 +85,7 @@ module _ (desk : Desk) where
   -- a count, that many RANDs, and a buffer for the batch
   module _ (count : ℕ) (rands buffer : Octets) where
     unfoldable pub orderAnswer : centre.AucAnswer
-    orderAnswer = centre.order width sets (desk .auc) count rands buffer
+    orderAnswer = centre.order editions sets (desk .auc) count rands buffer
 
     -- the vectors given go to the node
     unfoldable pub storeAnswer : node.VlrAnswer
@@ -91,7 +96,7 @@ module _ (desk : Desk) where
 
     -- with the last AUTS and its RAND
     unfoldable pub resyncAnswer : centre.AucAnswer
-    resyncAnswer = centre.resync width sets (desk .auc) count rands buffer (desk .rand) (desk .auts)
+    resyncAnswer = centre.resync editions sets (desk .auc) count rands buffer (desk .rand) (desk .auts)
 
     unfoldable pub renewAnswer : node.VlrAnswer
     renewAnswer = node.renew (desk .vlr) vector (resyncAnswer .n) (resyncAnswer .batch)
@@ -105,7 +110,7 @@ module _ (desk : Desk) where
   askAnswer = node.ask (desk .vlr)
 
   unfoldable pub cardAnswer : card.UsimAnswer
-  cardAnswer = card.challenge width sets (desk .usim) (askAnswer .rand) (askAnswer .autn)
+  cardAnswer = card.challenge editions sets (desk .usim) (askAnswer .rand) (askAnswer .autn)
 
   -- the SQN of the vector that was asked
   abbrev pub sqnAsked : ℕ
@@ -146,12 +151,13 @@ module _ (desk : Desk) where
   unfoldable pub withCounters : (seqhe next : ℕ) → Desk
   withCounters seqhe next =
       withRecords desk (desk .usim)
-      (record { keys = desk .auc .keys; amf = desk .auc .amf; seqhe = seqhe; next = next })
+      (record { edition = desk .auc .edition; keys = desk .auc .keys; amf = desk .auc .amf; seqhe = seqhe; next = next })
       (desk .vlr)
 
   unfoldable pub put : (seqhe next : ℕ) → DeskAnswer
   put seqhe next =
-      refusedOr desk (cond (leb seqhe (limit width) && ltb next (indices width)) 0 1)
+      let w = widthOf editions (desk .auc .edition) in
+      refusedOr desk (cond (leb seqhe (limit w) && ltb next (indices w)) 0 1)
       (record { desk = withCounters seqhe next; reply = replies.putOk })
 
   -- ---- show: SEQ_HE, next index, SEQ_MS, its index

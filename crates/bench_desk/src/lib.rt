@@ -14,6 +14,9 @@ ghost use Rattle.vlr_record.specs.Views.{outcomeOf, vlrOf};
 ghost use Rattle.bench_desk.specs.Desk.{newDesk, put as putOf, refusedBy, show as showOf, withCounters, withRecords};
 ghost use Rattle.bench_desk.specs.Views.{deskAnswerOf, deskOf};
 
+// The edition of the bench's records.
+pub const EDITION: u8 = 1;
+
 // `rand` and `auts` are zero when there was no AUTS.
 pub struct Desk {
     pub usim: Usim,
@@ -34,8 +37,8 @@ pub fn new(keys: Keys, amf: [u8; aka::AMF_SIZE]) -> Desk
     ensures { λ r. ⌜ deskOf r ≡ newDesk (keysOf keys) amf ⌝ }
 {
     Desk {
-        usim: usim::new(keys),
-        auc: auc::new(keys, amf),
+        usim: usim::new(EDITION, keys),
+        auc: auc::new(EDITION, keys, amf),
         vlr: vlr::new(),
         rand: [0; aka::RAND_SIZE],
         auts: [0; aka::AUTS_SIZE],
@@ -92,6 +95,7 @@ fn with_counters(desk: Desk, seqhe: u64, next: u8) -> Desk
         desk,
         usim,
         Auc {
+            edition: auc.edition,
             keys,
             amf,
             seqhe,
@@ -105,10 +109,12 @@ fn with_counters(desk: Desk, seqhe: u64, next: u8) -> Desk
 pub fn put(desk: Desk, seqhe: u64, next: u64) -> DeskAnswer
     ensures { λ r. ⌜ deskAnswerOf r ≡ putOf (deskOf desk) seqhe next ⌝ }
 {
-    if aka::LIMIT < seqhe {
+    let auc = desk.auc;
+    let m = editions::row(auc.edition);
+    if m.limit < seqhe {
         return refused(desk, 1);
     }
-    if aka::INDICES <= next {
+    if m.indices <= next {
         return refused(desk, 1);
     }
     DeskAnswer {

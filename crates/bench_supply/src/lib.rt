@@ -8,7 +8,7 @@ ghost use mathlib.Core.Path.{_≡_};
 ghost use Rattle.octets.specs.Octets.{Octets};
 ghost use Rattle.functions.specs.Sets.{sets};
 ghost use Rattle.aka.specs.Auc as centre;
-ghost use Rattle.aka.specs.Sequence.{width};
+ghost use Rattle.aka.specs.Editions.{editions};
 ghost use Rattle.auc_record.specs.Views.{answerOf as aucAnswerOf, aucOf, outcomeOf as aucOutcomeOf};
 ghost use Rattle.vlr_record.specs.Views.{answerOf as vlrAnswerOf};
 ghost use Rattle.bench_writer.specs.Views.{replyOf};
@@ -86,7 +86,7 @@ fn resynchronise(
 ) -> auc::Answer
     ensures { λ r. ⌜
         aucAnswerOf r (now (batch .exit))
-        ≡ centre.resync width sets (aucOf auc) count (now (rands .entry)) (now (batch .entry)) rand auts
+        ≡ centre.resync editions sets (aucOf auc) count (now (rands .entry)) (now (batch .entry)) rand auts
         ⌝ }
 {
     auc::resynchronise(auc, count as u64, &rand, &auts, rands, batch)

@@ -11,7 +11,7 @@ longestAnswer = 4127
 
 -- the fields of a line
 abbrev pub mostFields : ℕ
-mostFields = 40
+mostFields = 80
 
 -- the octets of a buffer that is lent for an image or a batch
 abbrev pub mostLent : ℕ

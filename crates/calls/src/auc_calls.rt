@@ -14,7 +14,7 @@ ghost use Rattle.calls.specs.Limits.{mostLent};
 pub fn answer(line: &[u8]) -> Text {
     let mut store = [0u8; LONGEST];
     let c = call::read(
-        b"auc-new:bKKA auc-write:bKKAlnb vector:On triplets:Ol auc-read:O order:OnOl resync:OnOOOl",
+        b"auc-new:bbKKA auc-write:bbKKAlnb vector:On triplets:Ol auc-read:O order:OnOl resync:OnOOOl",
         line,
         &mut store,
     );
@@ -27,25 +27,25 @@ fn answer_call(c: Call, store: &[u8]) -> Text {
     match word {
         0 => text::no_text(),
         1 => write(new(c, store), auc_image::SIZE),
-        2 => write(record(c, store), call::lent_size(c, 4)),
+        2 => write(record(c, store), call::lent_size(c, 5)),
         3 => vector(c, store),
         4 => triplets(c, store),
         _ => with_image(c, store),
     }
 }
 
-// `auc-new SET K OPC AMF`.
+// `auc-new EDITION SET K OPC AMF`.
 fn new(c: Call, store: &[u8]) -> Auc {
     let mut amf = [0u8; aka::AMF_SIZE];
-    call::copy_front(call::part(c, 3, store), &mut amf);
-    auc::new(call::keys(c, store), amf)
+    call::copy_front(call::part(c, 4, store), &mut amf);
+    auc::new(call::edition(c), call::keys(c, store), amf)
 }
 
-// `auc-write SET K OPC AMF LENGTH SEQHE NEXT`. LENGTH is that of the buffer lent for the image.
+// `auc-write EDITION SET K OPC AMF LENGTH SEQHE NEXT`. LENGTH is that of the buffer lent for the image.
 fn record(c: Call, store: &[u8]) -> Auc {
     let mut auc = new(c, store);
-    auc.seqhe = call::number(c, 5);
-    auc.next = call::octet(c, 6);
+    auc.seqhe = call::number(c, 6);
+    auc.next = call::octet(c, 7);
     auc
 }
 
@@ -94,7 +94,7 @@ fn with_image(c: Call, store: &[u8]) -> Text {
 fn put_record(auc: Auc) -> Text {
     let keys = auc.keys;
     let amf = auc.amf;
-    let t = text::put_octets(text::put_keys(b"auc", keys), &amf);
+    let t = text::put_octets(text::put_keys(b"auc", auc.edition, keys), &amf);
     text::put_number(text::put_number(t, auc.seqhe), auc.next as u64)
 }
 

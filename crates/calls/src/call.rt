@@ -17,7 +17,7 @@ const LENT_SIZES: u64 = MOST_LENT as u64 + 1;
 const SIZES: u64 = LONGEST as u64 + 1;
 
 // The fields of a line.
-const MOST_FIELDS: usize = 40;
+const MOST_FIELDS: usize = 80;
 
 // ---- the line
 
@@ -301,11 +301,16 @@ fn key(c: Call, i: usize, store: &[u8]) -> [u8; aka::KEY_SIZE]
     key
 }
 
-// The fields `SET K OPC`, with which the line begins.
+// The field EDITION, with which the line of a record begins.
+pub fn edition(c: Call) -> u8 {
+    octet(c, 0)
+}
+
+// The fields `SET K OPC` behind it.
 pub fn keys(c: Call, store: &[u8]) -> Keys {
     Keys {
-        set: octet(c, 0),
-        k: key(c, 1, store),
-        opc: key(c, 2, store),
+        set: octet(c, 1),
+        k: key(c, 2, store),
+        opc: key(c, 3, store),
     }
 }

@@ -72,10 +72,11 @@ pub fn put_two(t: Text, a: [u8; aka::KEY_SIZE], b: [u8; aka::KEY_SIZE]) -> Text 
 }
 
 // Begins with a word and the keys of a record.
-pub fn put_keys(word: &[u8], keys: Keys) -> Text {
+pub fn put_keys(word: &[u8], edition: u8, keys: Keys) -> Text {
     let k = keys.k;
     let opc = keys.opc;
-    put_two(numbered(word, keys.set as u64), k, opc)
+    let t = numbered(word, edition as u64);
+    put_two(put_number(t, keys.set as u64), k, opc)
 }
 
 // A word, and what was written to the front of a buffer; or the refusal.

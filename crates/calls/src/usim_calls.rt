@@ -14,7 +14,7 @@ ghost use Rattle.calls.specs.Limits.{mostLent};
 pub fn answer(line: &[u8]) -> Text {
     let mut store = [0u8; LONGEST];
     let c = call::read(
-        b"card-new:bKK card-write:bKKlnnnnnnnnnnnnnnnnnnnnnnnnnnnnnnnn card-read:O challenge:OOO",
+        b"card-new:bbKK card-write:bbKKlnnnnnnnnnnnnnnnnnnnnnnnnnnnnnnnnnnnnnnnnnnnnnnnnnnnnnnnnnnnnnnnn card-read:O challenge:OOO",
         line,
         &mut store,
     );
@@ -26,26 +26,36 @@ fn answer_call(c: Call, store: &[u8]) -> Text {
     let word = c.word;
     match word {
         0 => text::no_text(),
-        1 => write(usim::new(call::keys(c, store)), usim_image::SIZE),
-        2 => write(record(c, store), call::lent_size(c, 3)),
+        1 => new(c, store),
+        2 => write(record(c, store), call::lent_size(c, 4)),
         _ => with_image(c, store),
     }
 }
 
-// `card-write SET K OPC LENGTH P0 P1 .. P31`. LENGTH is that of the buffer lent for the image.
+// `card-new EDITION SET K OPC`. The buffer lent has the size of the edition's image.
+fn new(c: Call, store: &[u8]) -> Text {
+    let edition = call::edition(c);
+    write(
+        usim::new(edition, call::keys(c, store)),
+        usim_image::size(edition),
+    )
+}
+
+// `card-write EDITION SET K OPC LENGTH P0 P1 .. P63`. LENGTH is that of the buffer lent for the image.
 fn record(c: Call, store: &[u8]) -> Usim {
     Usim {
+        edition: call::edition(c),
         keys: call::keys(c, store),
         places: places(c),
     }
 }
 
-// The first place is field 4.
-fn places(c: Call) -> [u64; aka::PLACES] {
-    let mut places = [0u64; aka::PLACES];
+// The first place is field 5.
+fn places(c: Call) -> [u64; editions::PLACES] {
+    let mut places = [0u64; editions::PLACES];
     let mut i = 0;
-    while i < aka::PLACES {
-        places[i] = call::number(c, i + 4);
+    while i < editions::PLACES {
+        places[i] = call::number(c, i + 5);
         i += 1;
     }
     places
@@ -76,13 +86,13 @@ fn with_image(c: Call, store: &[u8]) -> Text {
 fn put_card(card: Usim) -> Text {
     let keys = card.keys;
     let places = card.places;
-    put_places(text::put_keys(b"card", keys), places)
+    put_places(text::put_keys(b"card", card.edition, keys), places)
 }
 
-fn put_places(t: Text, places: [u64; aka::PLACES]) -> Text {
+fn put_places(t: Text, places: [u64; editions::PLACES]) -> Text {
     let mut line = t;
     let mut i = 0;
-    while i < aka::PLACES {
+    while i < editions::PLACES {
         let next = text::put_number(line, places[i]);
         line = next;
         i += 1;
@@ -112,7 +122,13 @@ fn put_accepted(sqn: u64, a: usim::Answer) -> Text {
 
 // Puts a card by its image.
 pub fn put_image(t: Text, card: Usim) -> Text {
-    let mut image = [0u8; usim_image::SIZE];
-    usim_image::write(card, &mut image);
-    text::put_octets(t, &image)
+    let mut image = [0u8; usim_image::MOST];
+    let size = usim_image::size(card.edition);
+    usim_image::write(card, &mut image[0..size]);
+    put_front(t, image, size)
+}
+
+// Puts what was written to the front of a buffer.
+fn put_front(t: Text, image: [u8; usim_image::MOST], size: usize) -> Text {
+    text::put_octets(t, console::first_bytes(&image, size))
 }

@@ -12,7 +12,8 @@ use Rattle.aka.specs.Functions.{Functions}
 use Rattle.aka.specs.Auc.{AucAnswer, kept, reset, resyncCount, resync}
 use Rattle.aka.specs.Usim as usim
 use Rattle.aka.specs.Demand3 as aka
-use Rattle.aka.specs.Sequence.{width}
+use Rattle.aka.specs.Sequence.{widthOf}
+use Rattle.aka.specs.Editions.{editions}
 use Rattle.usim_record.specs.declared.Usim.{Usim}
 use Rattle.usim_record.specs.Views as cardViews
 use Rattle.auc_record.specs.Views as centreViews
@@ -20,7 +21,7 @@ use Rattle.demand3.specs.Running.{Setting, Ran, Call, Chain, callOf, cou
 
 -- the answers of the code are those of the definitions
 same-answers : (batch : Octets) (n : ℕ) (u : Usim) (last : Option ℕ) (calls : List Call) → Chain u calls
-    → counted batch n last calls ≡ aka.answersTo width sets batch n (cardViews.usimOf u) last (map callOf calls)
+    → counted batch n last calls ≡ aka.answersTo editions sets batch n (cardViews.usimOf u) last (map callOf calls)
 unfolding Chain counted aka.answersTo
 same-answers batch n u last [] c = refl
 same-answers batch n u last (call ∷ rest) c =
@@ -30,18 +31,21 @@ same-answers batch n u last (call ∷ rest) c =
     (same-answers batch n (call .answer .usim) now rest (c .1))
     ∙ ap
     (λ (x : usim.UsimAnswer).
-    record { place = place; last = now; answer = x } ∷ aka.answersTo width sets batch n (x .usim) now (map callOf rest))
+    record { place = place; last = now; answer = x } ∷ aka.answersTo editions sets batch n (x .usim) now (map callOf rest))
     (c .0 .answer-is)
 
 -- what `aka` concludes, of any two answers
-pub record Of (F : Functions) (n : ℕ) (failure : usim.UsimAnswer) (resynced : AucAnswer) : Type 0 where
+pub record Of (w : ℕ) (F : Functions) (n : ℕ) (failure : usim.UsimAnswer) (resynced : AucAnswer) : Type 0 where
   pub sent : (resynced .outcome ≡ kept) ⊎ (resynced .outcome ≡ reset)
   pub all : (calls : List aka.Call)
-      → aka.Each aka.OtherNotAccepted (aka.answersTo width sets (resynced .batch) n (failure .usim) none calls)
-      → aka.Each (aka.Promised width F (resynced .batch) n (resynced .auc .seqhe))
-      (aka.answersTo width sets (resynced .batch) n (failure .usim) none calls)
+      → aka.Each aka.OtherNotAccepted (aka.answersTo editions sets (resynced .batch) n (failure .usim) none calls)
+      → aka.Each (aka.Promised w F (resynced .batch) n (resynced .auc .seqhe))
+      (aka.answersTo editions sets (resynced .batch) n (failure .usim) none calls)
 
-module _ (s : Setting) (ran : Ran s) (p : aka.Premise width sets (settingOf s)) where
+module _ (s : Setting) (ran : Ran s) (p : aka.Premise editions sets (settingOf s)) where
+  abbrev w : ℕ
+  w = widthOf editions (s .usim .edition)
+
   abbrev F : Functions
   F = sets .under (keysOf (s .usim .keys))
 
@@ -53,24 +57,24 @@ module _ (s : Setting) (ran : Ran s) (p : aka.Premise width sets (settingOf s)) 
 
   -- the centre's answer to an AUTS
   abbrev fromAuts : Octets → AucAnswer
-  fromAuts auts = resync width sets (centreViews.aucOf (s .auc)) (s .count) (s .rands) (s .buffer) (s .rand) auts
+  fromAuts auts = resync editions sets (centreViews.aucOf (s .auc)) (s .count) (s .rands) (s .buffer) (s .rand) auts
 
   -- the types of the code have seen to it
-  shapes : aka.Shapes width (settingOf s)
+  shapes : aka.Shapes editions (settingOf s)
   shapes = record { usim = ran .failure .shape; auc = ran .resynced .shape }
 
-  of-definitions : Of F n (aka.failure width sets (settingOf s)) (aka.resynced width sets (settingOf s))
+  of-definitions : Of w F n (aka.failure editions sets (settingOf s)) (aka.resynced editions sets (settingOf s))
   of-definitions = let c = demand3-holds (settingOf s) shapes p in record { sent = c .sent; all = c .all }
 
   -- and so of the code's own answers
-  of-code : Of F n failure (centreViews.answerOf (s .resynced) (s .batch))
+  of-code : Of w F n failure (centreViews.answerOf (s .resynced) (s .batch))
   of-code =
-      subst (λ (r : AucAnswer). Of F n failure r) (sym (ran .resynced .answer-is))
-      (subst (λ (x : usim.UsimAnswer). Of F n x (fromAuts (x .auts))) (sym (ran .failure .answer-is)) of-definitions)
+      subst (λ (r : AucAnswer). Of w F n failure r) (sym (ran .resynced .answer-is))
+      (subst (λ (x : usim.UsimAnswer). Of w F n x (fromAuts (x .auts))) (sym (ran .failure .answer-is)) of-definitions)
 
   conclusion : Conclusion s
   conclusion =
-      let Promised = aka.Promised width F (s .batch) n (s .resynced .auc .seqhe) in
+      let Promised = aka.Promised w F (s .batch) n (s .resynced .auc .seqhe) in
       record {
         sent = of-code .sent;
         all = λ calls chain other.

@@ -1,5 +1,5 @@
 -- Demand 3 of the running code. `aka` states it of the definitions; here it names the records that `usim::challenge` and
--- `auc::resynchronise` take and return, at the index width and the function sets that they use. Assumes nothing.
+-- `auc::resynchronise` take and return, for the editions and the function sets that they use. Assumes nothing.
 use Prim.Native.Nat.{ℕ}
 use mathlib.Core.List.{List, [], _∷_}
 use mathlib.Core.Logic.{_⊎_}
@@ -11,7 +11,8 @@ use Rattle.functions.specs.Challenge.{keysOf}
 use Rattle.aka.specs.Auc.{AucShaped, kept, reset, resyncCount, resync}
 use Rattle.aka.specs.Usim.{UsimShaped, challenge}
 use Rattle.aka.specs.Demand3 as aka
-use Rattle.aka.specs.Sequence.{width}
+use Rattle.aka.specs.Sequence.{widthOf}
+use Rattle.aka.specs.Editions.{editions}
 use Rattle.usim_record.specs.declared.Usim.{Usim}
 use Rattle.usim_record.specs.declared.Answer as card
 use Rattle.usim_record.specs.Views as cardViews
@@ -21,12 +22,12 @@ use Rattle.auc_record.specs.Views as centreViews
 
 -- what the contract of `usim::challenge` says of its answer, and of the record that it was given
 pub record Answered (usim : Usim) (rand autn : Octets) (answer : card.Answer) : Type 0 where
-  pub answer-is : cardViews.answerOf answer ≡ challenge width sets (cardViews.usimOf usim) rand autn
-  pub shape : UsimShaped width (cardViews.usimOf usim)
+  pub answer-is : cardViews.answerOf answer ≡ challenge editions sets (cardViews.usimOf usim) rand autn
+  pub shape : UsimShaped editions (cardViews.usimOf usim)
 
 -- what the contract of `auc::resynchronise` says of its answer, of what the buffer holds at the end, and of the record that it was given
 pub record Resynchronised (auc : Auc) (count : ℕ) (rands buffer rand auts : Octets) (answer : centre.Answer) (batch : Octets) : Type 0 where
-  pub answer-is : centreViews.answerOf answer batch ≡ resync width sets (centreViews.aucOf auc) count rands buffer rand auts
+  pub answer-is : centreViews.answerOf answer batch ≡ resync editions sets (centreViews.aucOf auc) count rands buffer rand auts
   pub shape : AucShaped (centreViews.aucOf auc)
 
 -- a card, a challenge to it and its answer; a centre, what is lent to its resynchronisation, and its answer
@@ -97,9 +98,9 @@ module _ (s : Setting) where
     -- `Demand3.Promised` says
     pub all : (calls : List Call) → Chain (s .failure .usim) calls → aka.Each aka.OtherNotAccepted (answered calls)
         → aka.Each
-        (aka.Promised width (sets .under (keysOf (s .usim .keys))) (s .batch) (resyncCount (s .count)) (s .resynced .auc .seqhe))
+        (aka.Promised (widthOf editions (s .usim .edition)) (sets .under (keysOf (s .usim .keys))) (s .batch) (resyncCount (s .count)) (s .resynced .auc .seqhe))
         (answered calls)
 
--- `aka.Premise`: valid records of the same keys, count and lent parts as named, room, and a synchronisation failure
+-- `aka.Premise`: valid records of the same edition and keys, count and lent parts as named, room, and a synchronisation failure
 abbrev pub Demand3 : Type 0
-Demand3 = (s : Setting) → Ran s → aka.Premise width sets (settingOf s) → Conclusion s
+Demand3 = (s : Setting) → Ran s → aka.Premise editions sets (settingOf s) → Conclusion s

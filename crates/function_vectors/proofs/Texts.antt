@@ -16,7 +16,7 @@ use Rattle.hex.specs.Hex.{hasRoom, hex, writtenInto}
 use Rattle.fields.specs.Fields.{isHexField, octetsIn, readFieldInto}
 use Rattle.hex.proofs.HexLaws.{length-hex}
 use Rattle.aka.specs.Functions.{Functions, Keys}
-use Rattle.functions.specs.Sets.{sets}
+use Rattle.functions.specs.Sets.{isSet, sets}
 use Rattle.function_vectors.specs.declared.Outputs.{Outputs}
 use Rattle.function_vectors.specs.Outputs.{Answers}
 use Rattle.aka.specs.Layout.{keySize, randSize, sqnSize, amfSize}
@@ -97,13 +97,13 @@ module _ (line : List ℕ) (size : length line ≡ lineSize) where
   unfolding answerText
   not-formed e is = rw (formed false e) is
 
-  pub not-known : {text : List ℕ} → keysFormed line && challengeFormed line ≡ true → sets .known (keysOn line .set) ≡ false
+  pub not-known : {text : List ℕ} → keysFormed line && challengeFormed line ≡ true → isSet (keysOn line .set) ≡ false
       → text ≡ ascii "refused 1\n"
       → text ≡ answerText line
   unfolding answerText
   not-known e unknown is = rw (formed true e, unknown) is
 
-  pub outputs : {text : List ℕ} → keysFormed line && challengeFormed line ≡ true → sets .known (keysOn line .set) ≡ true
+  pub outputs : {text : List ℕ} → keysFormed line && challengeFormed line ≡ true → isSet (keysOn line .set) ≡ true
       → text ≡ outputsOf (sets .under (keysOn line))
       (octetsIn randSize randAt line) (octetsIn sqnSize sqnAt line) (octetsIn amfSize amfAt line)
       → text ≡ answerText line

@@ -10,7 +10,7 @@ use Rattle.hex.specs.Hex.{hex}
 use Rattle.fields.specs.Fields.{hexFieldSize, isHexField, octetsIn}
 use Rattle.aka.specs.Layout.{keySize, randSize, resSize, ckSize, ikSize, sqnSize, amfSize, macSize}
 use Rattle.aka.specs.Functions.{Functions, Keys}
-use Rattle.functions.specs.Sets.{sets}
+use Rattle.functions.specs.Sets.{isSet, sets}
 use Rattle.console.specs.Turns.{Answer, AnswersAll}
 
 -- ---- the line: one digit, then K, OPC, RAND, SQN and AMF in hex, each after a space
@@ -74,7 +74,7 @@ outputsOf F rand sqn amf =
 unfoldable pub answerText : List ℕ → List ℕ
 answerText line =
     cond (wellFormed line)
-    (cond (sets .known (keysOn line .set))
+    (cond (isSet (keysOn line .set))
     (outputsOf (sets .under (keysOn line)) (octetsIn randSize randAt line) (octetsIn sqnSize sqnAt line) (octetsIn amfSize amfAt line))
     (ascii "refused 1\n"))
     (ascii "bad line\n")

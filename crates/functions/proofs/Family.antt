@@ -117,7 +117,7 @@ module _ (keys : Keys) (rand : Octets) (shape : Shaped keys) (size : length rand
 pub lawful : Lawful sets
 unfolding sets
 lawful = record {
-  lengths = λ keys known shape. record {
+  lengths = λ edition keys admitted shape. record {
     f1 = λ sqn rand amf hs hr ha. sized keys rand shape hr .f1 sqn amf hs ha;
     f1* = λ sqn rand amf hs hr ha. sized keys rand shape hr .f1* sqn amf hs ha;
     f2 = λ rand hr. sized keys rand shape hr .f2;
@@ -126,5 +126,5 @@ lawful = record {
     f5 = λ rand hr. sized keys rand shape hr .f5;
     f5* = λ rand hr. sized keys rand shape hr .f5*;
   };
-  octets = λ keys rand known shape hr hk ho h. ak-octets keys rand shape hr hk ho h;
+  octets = λ edition keys rand admitted shape hr hk ho h. ak-octets keys rand shape hr hk ho h;
 }

@@ -1,7 +1,8 @@
--- The function sets of document 01, 'The functions': set 0, the test set of the bench, and set 1, MILENAGE.
+-- The function sets of document 01, 'The functions': set 0, the test set of the bench, and set 1, MILENAGE; and which keys a record of an
+-- edition may hold.
 -- Assumes nothing: these are definitions.
 use Prim.Native.Nat.{ℕ}
-use mathlib.Core.Bool.{cond}
+use mathlib.Core.Bool.{Bool, _&&_, cond}
 use mathlib.Core.List.{_++_}
 use lib.Dec.{eqb, leb}
 use lib.ListN.{take}
@@ -9,6 +10,7 @@ use Rattle.octets.specs.Octets.{Octets, part, xor, turnLeft}
 use Rattle.aes.specs.Cipher.{aes}
 use Rattle.milenage.specs.Milenage.{temp, in1, out1, out2, out3, out4, out5}
 use Rattle.aka.specs.Functions.{Keys, Family}
+use Rattle.aka.specs.Editions.{isEdition}
 
 -- the outputs of the seven functions for one RAND; f1 and f1* are of an SQN and an AMF besides
 pub record Outputs : Type 0 where
@@ -58,9 +60,13 @@ outputs set E opc base = cond (eqb set 0) (testOutputs base) (milenageOutputs E 
 unfoldable pub outputsOf : Keys → (rand : Octets) → Outputs
 outputsOf keys rand = outputs (keys .set) (aes (keys .k)) (keys .opc) (baseOf keys rand)
 
+-- there is such a set
+unfoldable pub isSet : (set : ℕ) → Bool
+isSet set = leb set 1
+
 unfoldable pub sets : Family
 sets = record {
-  known = λ set. leb set 1;
+  admits = λ edition keys. isEdition edition && isSet (keys .set);
   under = λ keys. record {
     f1 = λ sqn rand amf. outputsOf keys rand .f1 sqn amf;
     f1* = λ sqn rand amf. outputsOf keys rand .f1* sqn amf;

@@ -5,7 +5,7 @@
 use aes_words::Block;
 ghost use mathlib.Core.Path.{_≡_};
 ghost use Rattle.aes_tables.specs.RoundTable.{IsRoundTable};
-ghost use Rattle.functions.specs.Sets.{sets};
+ghost use Rattle.functions.specs.Sets.{isSet, sets};
 ghost use Rattle.functions.specs.Challenge.{keysOf, scheduleOf, IsSchedule, outputsFrom, Prepared};
 
 // What USIM and AuC hold of a subscriber: the function set, K and OPc.
@@ -30,9 +30,19 @@ pub struct ResAk {
 
 // Whether the function set is known.
 pub fn is_known(set: u8) -> bool
-    ensures { λ r. ⌜ r ≡ sets .known set ⌝ }
+    ensures { λ r. ⌜ r ≡ isSet set ⌝ }
 {
     set <= 1
+}
+
+// Whether a record of this edition may hold these keys: refusal 1 does not apply to the two.
+pub fn admits(edition: u8, keys: Keys) -> bool
+    ensures { λ r. ⌜ r ≡ sets .admits edition (keysOf keys) ⌝ }
+{
+    if !editions::is_known(edition) {
+        return false;
+    }
+    is_known(keys.set)
 }
 
 // The key schedule, for every challenge under these keys. Set 0 has no use for one.

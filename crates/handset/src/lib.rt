@@ -15,7 +15,7 @@ ghost use lib.ListN.{length};
 ghost use Rattle.octets.specs.Octets.{Octets};
 ghost use Rattle.functions.specs.Sets.{sets};
 ghost use Rattle.aka.specs.Layout.{answerSize, writeAnswer};
-ghost use Rattle.aka.specs.Sequence.{width};
+ghost use Rattle.aka.specs.Editions.{editions};
 ghost use Rattle.aka.specs.Usim.{UsimShaped, challenge};
 ghost use Rattle.aka.specs.Handset.{handedOn, challenged, told};
 ghost use Rattle.usim_record.specs.Views.{usimOf, verdictOf};
@@ -61,9 +61,9 @@ fn ask(usim: Usim, rand: &[u8], autn: &[u8], fresh: &mut [u8]) -> Told
     requires { ⌜ length (now fresh) ≡ answerSize ⌝ }
     ensures answer { λ r. ⌜
         toldOf r (now (fresh .exit))
-        ≡ askedWith (challenge width sets (usimOf usim) (now (rand .entry)) (now (autn .entry))) (now (fresh .entry))
+        ≡ askedWith (challenge editions sets (usimOf usim) (now (rand .entry)) (now (autn .entry))) (now (fresh .entry))
         ⌝ }
-    ensures shape { λ _. ⌜ UsimShaped width (usimOf usim) ⌝ }
+    ensures shape { λ _. ⌜ UsimShaped editions (usimOf usim) ⌝ }
 {
     let a = usim::challenge(usim, rand, autn);
     let verdict = a.verdict;
@@ -105,10 +105,10 @@ pub fn answer(
 ) -> Told
     ensures answer { λ r. ⌜
         toldOf r (now (fresh .exit))
-        ≡ told (challenged width sets (usimOf usim) (storeOf held (now (stored .entry))) (now (rand .entry)) (now (autn .entry))
+        ≡ told (challenged editions sets (usimOf usim) (storeOf held (now (stored .entry))) (now (rand .entry)) (now (autn .entry))
         (now (fresh .entry)))
         ⌝ }
-    ensures shape { λ _. ⌜ UsimShaped width (usimOf usim) ⌝ }
+    ensures shape { λ _. ⌜ UsimShaped editions (usimOf usim) ⌝ }
 {
     if !lengths_right(stored.len(), rand.len(), fresh.len()) {
         return without_card(Outcome::Refused(3), usim);

@@ -1,17 +1,12 @@
 -- The head of a packed image (document 01, 'Numbers and records'): edition and set in the first octet, then K and OPc. USIM and AuC share
--- it. Assumes nothing: these are definitions.
+-- it, and it is the same in every edition. Assumes nothing: these are definitions.
 use Prim.Native.Nat.{ℕ, _+_, _*_, _/_, _%_}
-use mathlib.Core.Bool.{Bool, _&&_}
+use mathlib.Core.Bool.{Bool}
 use mathlib.Core.List.{_∷_, _++_}
-use lib.Dec.{eqb}
 use lib.ListN.{getD}
 use Rattle.octets.specs.Octets.{Octets, zeros, part}
 use Rattle.aka.specs.Layout.{keySize}
 use Rattle.aka.specs.Functions.{Keys, Family}
-
--- the edition of the images that are written and read
-abbrev pub edition : ℕ
-edition = 1
 
 -- edition and set have 4 bits each: so many values
 abbrev pub nibble : ℕ
@@ -26,16 +21,20 @@ opcAt = kAt + keySize
 abbrev pub headSize : ℕ
 headSize = opcAt + keySize
 
-unfoldable pub head : Keys → Octets
-head keys = (nibble * edition + keys .set) ∷ (keys .k ++ keys .opc)
+unfoldable pub head : (edition : ℕ) → Keys → Octets
+head edition keys = (nibble * edition + keys .set) ∷ (keys .k ++ keys .opc)
+
+-- the edition of an image
+abbrev pub editionIn : Octets → ℕ
+editionIn x = getD x 0 0 / nibble
 
 -- set, K and OPc in an image
 unfoldable pub keysIn : Octets → Keys
 keysIn x = record { set = getD x 0 0 % nibble; k = part kAt keySize x; opc = part opcAt keySize x }
 
--- edition and set of an image are known
-unfoldable pub knownHead : Family → (x : Octets) → Bool
-knownHead family x = eqb (getD x 0 0 / nibble) edition && family .known (getD x 0 0 % nibble)
+-- a record of the image's edition may hold its keys
+abbrev pub admittedHead : Family → (x : Octets) → Bool
+admittedHead family x = family .admits (editionIn x) (keysIn x)
 
 -- the keys of a refused reading
 abbrev pub noKeys : Keys

@@ -9,9 +9,7 @@ ghost use lib.ListN.{length, take, drop};
 ghost use Rattle.functions.specs.Challenge.{keysOf};
 ghost use Rattle.functions.specs.Sets.{sets};
 ghost use Rattle.aka.specs.Layout.{keySize};
-ghost use Rattle.images.specs.Head.{head, headSize, keysIn, knownHead, noKeys};
-
-const EDITION: u8 = 1;
+ghost use Rattle.images.specs.Head.{head, headSize, editionIn, keysIn, noKeys};
 
 // Edition and set have 4 bits each: so many values.
 const NIBBLE: u8 = 16;
@@ -32,15 +30,15 @@ fn put_key(image: &mut [u8], at: usize, key: [u8; aka::KEY_SIZE])
     bytes::copy(&key, &mut image[at..]);
 }
 
-// Puts the head of a record of a known set into an image. What stands behind it stays.
-pub fn put_head(image: &mut [u8], keys: Keys)
+// Puts the head of a record into an image, whose edition admits its keys. What stands behind it stays.
+pub fn put_head(image: &mut [u8], edition: u8, keys: Keys)
     requires size { ⌜ headSize ≤ length (now image) ⌝ }
-    requires known { ⌜ sets .known (keys .set) ≡ true ⌝ }
-    ensures { λ _. ⌜ now (image .exit) ≡ head (keysOf keys) ++ drop headSize (now (image .entry)) ⌝ }
+    requires admitted { ⌜ sets .admits edition (keysOf keys) ≡ true ⌝ }
+    ensures { λ _. ⌜ now (image .exit) ≡ head edition (keysOf keys) ++ drop headSize (now (image .entry)) ⌝ }
 {
     let k = keys.k;
     let opc = keys.opc;
-    image[0] = NIBBLE * EDITION + keys.set;
+    image[0] = NIBBLE * edition + keys.set;
     put_key(image, K_AT, k);
     put_key(image, OPC_AT, opc);
 }
@@ -57,16 +55,12 @@ pub fn keys_in(image: &[u8]) -> Keys
     }
 }
 
-// Whether edition and set of an image are known.
-pub fn known_head(image: &[u8]) -> bool
+// The edition of an image.
+pub fn edition_in(image: &[u8]) -> u8
     requires { ⌜ 0 < length (now image) ⌝ }
-    ensures { λ r. ⌜ r ≡ knownHead sets (now (image .entry)) ⌝ }
+    ensures { λ r. ⌜ r ≡ editionIn (now (image .entry)) ⌝ }
 {
-    let first = image[0];
-    if first / NIBBLE != EDITION {
-        return false;
-    }
-    functions::is_known(first % NIBBLE)
+    image[0] / NIBBLE
 }
 
 // The keys of a refused reading.

@@ -7,7 +7,7 @@ ghost use mathlib.Core.Path.{_≡_};
 ghost use lib.ListN.{length};
 ghost use Rattle.functions.specs.Sets.{sets};
 ghost use Rattle.aka.specs.Auc.{validAuc};
-ghost use Rattle.aka.specs.Sequence.{width};
+ghost use Rattle.aka.specs.Editions.{editions};
 ghost use Rattle.auc_record.specs.Views.{aucOf, outcomeOf};
 ghost use Rattle.auc_image.specs.Image.{image as aucImage, imageSize as aucImageSize};
 ghost use Rattle.interface_answers.specs.Results.{outcomeResult};
@@ -15,8 +15,8 @@ ghost use Rattle.interface_answers.specs.Answers.{aucImageAfter};
 
 // The next record goes into the image, and the number is handed back.
 fn write_next(auc: Auc, image: &mut [u8], result: u64) -> u64
-    requires { ⌜ (validAuc width sets (aucOf auc) ≡ true) × (length (now image) ≡ aucImageSize) ⌝ }
-    ensures { λ r. ⌜ (r ≡ result) × (now (image .exit) ≡ aucImage width (aucOf auc)) ⌝ }
+    requires { ⌜ (validAuc editions sets (aucOf auc) ≡ true) × (length (now image) ≡ aucImageSize) ⌝ }
+    ensures { λ r. ⌜ (r ≡ result) × (now (image .exit) ≡ aucImage editions (aucOf auc)) ⌝ }
 {
     auc_image::write(auc, image);
     result
@@ -24,10 +24,10 @@ fn write_next(auc: Auc, image: &mut [u8], result: u64) -> u64
 
 // The image changes where a batch is given.
 pub fn hand_on(a: auc::Answer, image: &mut [u8]) -> u64
-    requires { ⌜ (validAuc width sets (aucOf (a .auc)) ≡ true) × (length (now image) ≡ aucImageSize) ⌝ }
+    requires { ⌜ (validAuc editions sets (aucOf (a .auc)) ≡ true) × (length (now image) ≡ aucImageSize) ⌝ }
     ensures { λ r. ⌜
         (r ≡ outcomeResult (outcomeOf (a .outcome)))
-        × (now (image .exit) ≡ aucImageAfter (outcomeOf (a .outcome)) (now (image .entry)) (aucImage width (aucOf (a .auc))))
+        × (now (image .exit) ≡ aucImageAfter (outcomeOf (a .outcome)) (now (image .entry)) (aucImage editions (aucOf (a .auc))))
         ⌝ }
 {
     let outcome = a.outcome;

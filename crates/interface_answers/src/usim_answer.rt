@@ -8,7 +8,8 @@ ghost use mathlib.Core.Path.{_≡_};
 ghost use lib.ListN.{length};
 ghost use Rattle.functions.specs.Sets.{sets};
 ghost use Rattle.aka.specs.Usim.{validUsim};
-ghost use Rattle.aka.specs.Sequence.{width, FitsSqn};
+ghost use Rattle.aka.specs.Sequence.{FitsSqn, widthOf};
+ghost use Rattle.aka.specs.Editions.{editions};
 ghost use Rattle.usim_record.specs.Views.{usimOf, verdictOf, sqnGiven};
 ghost use Rattle.usim_image.specs.Image.{image as usimImage, imageSize as usimImageSize};
 ghost use Rattle.interface_answers.specs.Results.{verdictResult};
@@ -39,8 +40,10 @@ pub fn fill_all(a: usim::Answer, res: &mut [u8], ck: &mut [u8], ik: &mut [u8], a
 
 // The next record goes into the image, and the number is handed back.
 fn write_next(usim: Usim, image: &mut [u8], result: u64) -> u64
-    requires { ⌜ (validUsim width sets (usimOf usim) ≡ true) × (length (now image) ≡ usimImageSize width) ⌝ }
-    ensures { λ r. ⌜ (r ≡ result) × (now (image .exit) ≡ usimImage width (usimOf usim)) ⌝ }
+    requires { ⌜
+        (validUsim editions sets (usimOf usim) ≡ true) × (length (now image) ≡ usimImageSize (widthOf editions (usim .edition)))
+        ⌝ }
+    ensures { λ r. ⌜ (r ≡ result) × (now (image .exit) ≡ usimImage editions (usimOf usim)) ⌝ }
 {
     usim_image::write(usim, image);
     result
@@ -48,11 +51,11 @@ fn write_next(usim: Usim, image: &mut [u8], result: u64) -> u64
 
 // The image changes with an acceptance.
 pub fn hand_on(a: usim::Answer, image: &mut [u8]) -> u64
-    requires next { ⌜ (validUsim width sets (usimOf (a .usim)) ≡ true) × FitsSqn (sqnGiven (a .verdict)) ⌝ }
-    requires size { ⌜ length (now image) ≡ usimImageSize width ⌝ }
+    requires next { ⌜ (validUsim editions sets (usimOf (a .usim)) ≡ true) × FitsSqn (sqnGiven (a .verdict)) ⌝ }
+    requires size { ⌜ length (now image) ≡ usimImageSize (widthOf editions (a .usim .edition)) ⌝ }
     ensures { λ r. ⌜
         (r ≡ verdictResult (verdictOf (a .verdict)) (sqnGiven (a .verdict)))
-        × (now (image .exit) ≡ usimImageAfter (verdictOf (a .verdict)) (now (image .entry)) (usimImage width (usimOf (a .usim))))
+        × (now (image .exit) ≡ usimImageAfter (verdictOf (a .verdict)) (now (image .entry)) (usimImage editions (usimOf (a .usim))))
         ⌝ }
 {
     let verdict = a.verdict;

@@ -1,3 +1,3 @@
 pub mod Repacked
-pub mod Digits
-pub mod Filling
+pub mod Reading
+pub mod Writing

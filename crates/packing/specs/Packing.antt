@@ -1,12 +1,13 @@
--- One number, read in digits of one width and written in digits of another. Assumes nothing: these are definitions.
-use Prim.Native.Nat.{ℕ, _+_, _^_, _<_, _≤_}
+-- Numbers of a few bits each, one behind the other in octets, the first bit the most significant. Assumes nothing: these are definitions.
+use Prim.Native.Nat.{ℕ, _-_, _*_, _^_}
 use mathlib.Core.List.{List}
-use Rattle.octets.specs.Octets.{digits, number}
+use lib.ListN.{length}
+use Rattle.octets.specs.Octets.{Octets, digits, number, encode, decode}
 
--- the number of the digits `src` of `a` bits each, in `n` digits of `b` bits each
-unfoldable pub repacked : (a b n : ℕ) → List ℕ → List ℕ
-repacked a b n src = digits (2 ^ b) n (number (2 ^ a) src)
+-- the last `n` digits of `bits` bits of the number that the octets x spell
+abbrev pub unpacked : (bits n : ℕ) → Octets → List ℕ
+unpacked bits n x = digits (2 ^ bits) n (decode x)
 
--- a digit of `a` bits and one of `b` bits stand in a word of 64
-abbrev pub Widths : (a b : ℕ) → Type 0
-Widths a b = (0 < a) × (0 < b) × (a + b ≤ 64)
+-- the digits l of `bits` bits in `size` octets, from the first bit on; what is left behind them is 0
+abbrev pub packed : (bits size : ℕ) → List ℕ → Octets
+packed bits size l = encode size (number (2 ^ bits) l * 2 ^ (8 * size - bits * length l))

@@ -1,91 +1,108 @@
-// One number in digits of one width, written in digits of another, the most significant first.
+// Numbers of a few bits each, one behind the other in octets, the first bit the most significant: taken out of octets and put into them
+// through a word of eight octets, one word a number.
 //
-// `repack` refuses nothing: widths and lengths are its callers' constants, and octets and places of a valid record are within their
-// widths.
-ghost use Prim.Native.Nat.{_*_, _+_, _<_, _^_, _≤_};
+// Nothing is refused here: widths and lengths are the callers' constants, and the numbers of a valid record are within their width.
+ghost use Prim.Native.Nat.{_*_, _+_, _-_, _/_, _%_, _<_, _^_, _≤_};
+ghost use mathlib.Core.List.{_++_};
 ghost use mathlib.Core.Path.{_≡_};
-ghost use lib.ListN.{length};
-ghost use Rattle.octets.specs.Octets.{Below};
-ghost use Rattle.packing.specs.Packing.{Widths, repacked};
-ghost use Rattle.packing.specs.Reading.{Reading, Taken, left};
+ghost use lib.ListN.{length, take, drop};
+ghost use Rattle.octets.specs.Octets.{Below, zeros, encode, decode};
+ghost use Rattle.packing.specs.Packing.{unpacked, packed};
 
 // The bits of an octet.
 pub const OCTET_BITS: u64 = 8;
 
-// The first `at` digits are taken, and `bits` are the lowest `held` bits of their number.
-struct Reader {
-    at: usize,
-    held: u64,
-    bits: u64,
+fn wide(x: u8) -> u64
+    ensures { λ r. ⌜ (r ≡ x) × (r < 256) ⌝ }
+{
+    x as u64
 }
 
-// Takes digits of `a` bits until `b` bits are held.
-fn fill(src: &[u64], a: u64, b: u64, r: Reader) -> Reader
-    requires widths { ⌜ Widths a b ⌝ }
-    requires below { ⌜ Below (2 ^ a) (now src) ⌝ }
-    requires reading { ⌜ Reading a (now src) a r ⌝ }
-    requires enough { ⌜ b ≤ left a (now src) r ⌝ }
-    ensures taken { λ s. ⌜ Taken a (now (src .entry)) b r s ⌝ }
-    ensures enough { λ s. ⌜ b ≤ s .held ⌝ }
+// The number that eight octets spell, in a form of which the compiler makes one load.
+fn word(x: &[u8]) -> u64
+    requires { ⌜ length (now x) ≡ 8 ⌝ }
+    ensures { λ r. ⌜ r ≡ decode (now (x .entry)) ⌝ }
 {
-    let mut at = r.at;
-    let mut held = r.held;
-    let mut bits = r.bits;
-    while held < b {
-        bits = (bits << a) + src[at];
-        held += a;
-        at += 1;
-    }
-    Reader { at, held, bits }
+    let a = wide(x[0]);
+    let b = a * 256 + wide(x[1]);
+    let c = b * 256 + wide(x[2]);
+    let d = c * 256 + wide(x[3]);
+    let e = d * 256 + wide(x[4]);
+    let f = e * 256 + wide(x[5]);
+    let g = f * 256 + wide(x[6]);
+    g * 256 + wide(x[7])
 }
 
-// Writes the number of `src`, in digits of `a` bits, to `dst`, in digits of `b` bits.
-pub fn repack(src: &[u64], a: u64, dst: &mut [u64], b: u64)
-    requires widths { ⌜ Widths a b ⌝ }
-    requires below { ⌜ Below (2 ^ a) (now src) ⌝ }
-    requires lengths { ⌜ a * length (now src) ≡ b * length (now dst) ⌝ }
-    ensures { λ _. ⌜ now (dst .exit) ≡ repacked a b (length (now (dst .entry))) (now (src .entry)) ⌝ }
+// The number of `bits` bits in x behind which `left` bits stand. It is in the word that ends with the number's last octet.
+fn place(x: &[u8], left: u64, bits: u64) -> u64
+    requires width { ⌜ bits ≤ 56 ⌝ }
+    requires lengths { ⌜ left + 64 ≤ 8 * length (now x) ⌝ }
+    ensures { λ r. ⌜ r ≡ decode (now (x .entry)) / 2 ^ left % 2 ^ bits ⌝ }
 {
-    let mut r = Reader {
-        at: 0,
-        held: 0,
-        bits: 0,
-    };
+    let end = x.len() - (left / OCTET_BITS) as usize;
+    (word(&x[end - 8..end]) >> (left % OCTET_BITS)) % (1 << bits)
+}
+
+// Takes out the numbers of `bits` bits that stand in x from octet `at` to its end. Eight octets or more stand before them.
+pub fn unpack(x: &[u8], at: usize, bits: u64, dst: &mut [u64])
+    requires width { ⌜ bits ≤ 56 ⌝ }
+    requires lengths { ⌜ (8 ≤ at) × (at ≤ length (now x)) × (length (now x) ≤ 4096) ⌝ }
+    requires all { ⌜ 8 * (length (now x) - at) ≡ bits * length (now dst) ⌝ }
+    ensures { λ _. ⌜ now (dst .exit) ≡ unpacked bits (length (now (dst .entry))) (drop at (now (x .entry))) ⌝ }
+{
+    let mut left = OCTET_BITS * ((x.len() - at) as u64);
     let mut i = 0;
     while i < dst.len() {
-        let s = fill(src, a, b, r);
-        let rest = s.held - b;
-        dst[i] = s.bits >> rest;
-        r = Reader {
-            at: s.at,
-            held: rest,
-            bits: s.bits % (1 << rest),
-        };
+        left -= bits;
+        dst[i] = place(x, left, bits);
         i += 1;
     }
 }
 
-// Octets as digits in words.
-pub fn widen(src: &[u8], dst: &mut [u64])
-    requires { ⌜ length (now src) ≡ length (now dst) ⌝ }
-    ensures { λ _. ⌜ now (dst .exit) ≡ now (src .entry) ⌝ }
+// Puts a number as eight octets, from `at` on, in a form of which the compiler makes one store.
+fn put_word(dst: &mut [u8], at: usize, x: u64)
+    requires { ⌜ at + 8 ≤ length (now dst) ⌝ }
+    ensures { λ _. ⌜ now (dst .exit) ≡ take at (now (dst .entry)) ++ encode 8 x ++ drop (at + 8) (now (dst .entry)) ⌝ }
 {
-    let mut i = 0;
-    while i < src.len() {
-        dst[i] = src[i] as u64;
-        i += 1;
-    }
+    let g = x / 256;
+    let f = g / 256;
+    let e = f / 256;
+    let d = e / 256;
+    let c = d / 256;
+    let b = c / 256;
+    let a = b / 256;
+    dst[at] = (a % 256) as u8;
+    dst[at + 1] = (b % 256) as u8;
+    dst[at + 2] = (c % 256) as u8;
+    dst[at + 3] = (d % 256) as u8;
+    dst[at + 4] = (e % 256) as u8;
+    dst[at + 5] = (f % 256) as u8;
+    dst[at + 6] = (g % 256) as u8;
+    dst[at + 7] = (x % 256) as u8;
 }
 
-// Digits in words as octets.
-pub fn narrow(src: &[u64], dst: &mut [u8])
-    requires lengths { ⌜ length (now src) ≡ length (now dst) ⌝ }
-    requires below { ⌜ Below 256 (now src) ⌝ }
-    ensures { λ _. ⌜ now (dst .exit) ≡ now (src .entry) ⌝ }
+// Puts numbers of `bits` bits into octets that are all zero, from the first bit on. Eight octets or more are left behind them.
+//
+// `held` is the last 64 bits of the numbers so far, so that no octet is read again: a word is put whole, from the octet on in which
+// the next number begins, with what stood there before.
+pub fn pack(src: &[u64], bits: u64, dst: &mut [u8])
+    requires width { ⌜ (0 < bits) × (bits ≤ 56) ⌝ }
+    requires below { ⌜ Below (2 ^ bits) (now src) ⌝ }
+    requires lengths { ⌜ (bits * length (now src) + 64 ≤ 8 * length (now dst)) × (length (now dst) ≤ 4096) ⌝ }
+    requires clear { ⌜ now dst ≡ zeros (length (now dst)) ⌝ }
+    ensures { λ _. ⌜ now (dst .exit) ≡ packed bits (length (now (dst .entry))) (now (src .entry)) ⌝ }
 {
+    let mut used = 0;
+    let mut held = 0;
     let mut i = 0;
     while i < src.len() {
-        dst[i] = src[i] as u8;
+        held = (held << bits) + src[i];
+        put_word(
+            dst,
+            (used / OCTET_BITS) as usize,
+            held << (64 - used % OCTET_BITS - bits),
+        );
+        used += bits;
         i += 1;
     }
 }

@@ -7,12 +7,12 @@ use mathlib.Core.List.{List, [], _∷_, _++_, map}
 use mathlib.Core.Path.{_≡_, refl}
 use lib.ListN.{length, set}
 use Rattle.octets.specs.Octets.{Octets, zeros, xor, equal, turnLeft, digits, spelt}
-use Rattle.functions.specs.Sets.{sets, testOutputs, baseOf, outputs, outputsOf}
+use Rattle.functions.specs.Sets.{isSet, sets, testOutputs, baseOf, outputs, outputsOf}
 use Rattle.functions.specs.SampleRun.{k, z, autn, res, ck, ik, auts}
-use Rattle.aka.specs.Layout.{writeAutn, readAutn, writeAuts, readAuts, writeAnswer}
+use Rattle.aka.specs.Layout.{allZero, writeAutn, readAutn, writeAuts, readAuts, writeAnswer}
 use Rattle.aka.specs.Usim.{challenge, verdictOn, judgement, answerWith, validUsim, lengthsRight, macRight, fresh, highest, lowestIndex}
 use Rattle.aka.specs.Usim.{UsimShaped, allWithin, makeAuts}
-use Rattle.aka.specs.Sequence.{width}
+use Rattle.aka.specs.Editions.{editions, cardPlaces, isEdition, rowOf}
 use Rattle.aka.specs.Handset as handset
 use Rattle.aka.specs.RepeatedChallenge.{Phone, On, cs, ps, Conclusion}
 use Rattle.usim_record.specs.declared.Usim.{Usim}
@@ -27,18 +27,18 @@ use Rattle.repeated_challenge.proofs.Running.{running}
 
 -- the card before its first challenge and after it, and one of no known set
 abbrev cardWith : (set : ℕ) (places : List ℕ) → Usim
-cardWith set places = record { keys = record { set = set; k = k; opc = z }; places = places }
+cardWith set places = record { edition = 1; keys = record { set = set; k = k; opc = z }; places = places }
 
 abbrev new : Usim
-new = cardWith 0 (zeros 32)
+new = cardWith 0 (zeros cardPlaces)
 
 abbrev used : Usim
-used = cardWith 0 (set (zeros 32) 0 1)
+used = cardWith 0 (set (zeros cardPlaces) 0 1)
 
 abbrev invalid : Usim
-invalid = cardWith 7 (zeros 32)
+invalid = cardWith 7 (zeros cardPlaces)
 
-shaped : (set : ℕ) (places : List ℕ) → length places ≡ 32 → UsimShaped width (usimOf (cardWith set places))
+shaped : (set : ℕ) (places : List ℕ) → length places ≡ cardPlaces → UsimShaped editions (usimOf (cardWith set places))
 shaped set places size = record { keys = record { k = refl; opc = refl }; places = size }
 
 abbrev answer : Octets
@@ -93,8 +93,8 @@ calls =
     ∷ []
 
 -- what is to be shown of a challenge
-three : {store : handset.Store} {c : Challenge} {a : Answer} → UsimShaped width (usimOf (c .usim))
-    → toldOf (a .told) (a .fresh) ≡ handset.told (handset.challenged width sets (usimOf (c .usim)) store (c .rand) (c .autn) (c .fresh))
+three : {store : handset.Store} {c : Challenge} {a : Answer} → UsimShaped editions (usimOf (c .usim))
+    → toldOf (a .told) (a .fresh) ≡ handset.told (handset.challenged editions sets (usimOf (c .usim)) store (c .rand) (c .autn) (c .fresh))
     → ShownSays (a .told .outcome) store (c .rand) (a .fresh) (a .shown)
     → KeepSays (a .told .outcome) store (c .rand) (a .fresh) (a .written) (a .stored) → Answered store c a
 three shape answer shown keep = record { answer = record { answer-is = answer; shape = shape }; shown = shown; keep = keep }
@@ -103,8 +103,8 @@ abbrev phone : Phone
 phone = record { voice = handset.cleared; packets = handset.cleared }
 
 chain : Chain phone calls
-unfolding Chain sets testOutputs baseOf outputs outputsOf challenge verdictOn judgement answerWith validUsim lengthsRight macRight fresh
-    highest lowestIndex allWithin makeAuts writeAutn readAutn writeAuts readAuts writeAnswer xor equal digits spelt turnLeft
+unfolding Chain isEdition rowOf isSet sets testOutputs baseOf outputs outputsOf challenge verdictOn judgement answerWith validUsim lengthsRight macRight fresh
+    highest lowestIndex allWithin allZero makeAuts writeAutn readAutn writeAuts readAuts writeAnswer xor equal digits spelt turnLeft
     handset.repeats handset.partsRight handset.outcomeOn handset.answerWith handset.challenged handset.source handset.keep handset.clear
 chain = (
   three (shaped 0 _ refl) refl refl refl,
@@ -120,5 +120,5 @@ chain = (
   ),
 )
 
-pub ran : Conclusion width sets phone (handled phone calls) (map callOn calls)
+pub ran : Conclusion editions sets phone (handled phone calls) (map callOn calls)
 ran = running phone calls chain

@@ -4,7 +4,7 @@ use mathlib.Core.List.{List, [], _∷_, map}
 use mathlib.Core.Path.{_≡_}
 use Rattle.octets.specs.Octets.{Octets}
 use Rattle.functions.specs.Sets.{sets}
-use Rattle.aka.specs.Sequence.{width}
+use Rattle.aka.specs.Editions.{editions}
 use Rattle.aka.specs.Usim.{UsimShaped}
 use Rattle.aka.specs.Handset.{Store, HandsetAnswer, challenged, told, shown, keep, clear}
 use Rattle.aka.specs.RepeatedChallenge as aka
@@ -20,8 +20,8 @@ use Rattle.handset.specs.Views.{toldOf}
 
 -- `answer`: of what it tells, of what the fresh octets have then, and of the card's record that it was given
 pub record AnswerSays (usim : Usim) (store : Store) (rand autn fresh : Octets) (r : Told) (after : Octets) : Type 0 where
-  pub answer-is : toldOf r after ≡ told (challenged width sets (usimOf usim) store rand autn fresh)
-  pub shape : UsimShaped width (usimOf usim)
+  pub answer-is : toldOf r after ≡ told (challenged editions sets (usimOf usim) store rand autn fresh)
+  pub shape : UsimShaped editions (usimOf usim)
 
 -- `shown`: of the part that it returns
 abbrev pub ShownSays : Outcome → Store → (rand fresh part : Octets) → Type 0
@@ -112,4 +112,4 @@ handled phone (x ∷ rest) =
 -- for every phone and every list of calls on it, with any cards: `aka` `RepeatedChallenge.Conclusion` says what is promised
 abbrev pub RepeatedChallenge : Type 0
 RepeatedChallenge = (phone : aka.Phone) (calls : List (aka.On Ran)) → Chain phone calls
-    → aka.Conclusion width sets phone (handled phone calls) (map callOn calls)
+    → aka.Conclusion editions sets phone (handled phone calls) (map callOn calls)

@@ -2,7 +2,7 @@
 // and whether SEQ_HE is kept or reset.
 use functions::Challenge;
 use functions::Keys;
-ghost use Prim.Native.Nat.{_≤_};
+ghost use Prim.Native.Nat.{_≤_, _<_, _^_};
 ghost use mathlib.Core.Path.{_≡_};
 ghost use Rattle.octets.specs.Octets.{Octets};
 ghost use Rattle.aes_tables.specs.RoundTable.{IsRoundTable};
@@ -10,7 +10,8 @@ ghost use Rattle.functions.specs.Challenge.{keysOf, IsSchedule, Prepared};
 ghost use Rattle.functions.specs.Sets.{sets};
 ghost use Rattle.aka.specs.Functions.{Keys as KeysOf};
 ghost use Rattle.aka.specs.Layout.{mostVectors};
-ghost use Rattle.aka.specs.Sequence.{limit, width};
+ghost use Rattle.aka.specs.Sequence.{sqnBits, widthOf, limit};
+ghost use Rattle.aka.specs.Editions.{editions};
 ghost use Rattle.aka.specs.Auc.{inRange, sqnMsIn, macSRight};
 ghost use Rattle.resynchronisation.specs.Rulings.{Ruled};
 
@@ -23,7 +24,7 @@ pub struct Ruling {
 
 // Whether SEQ_HE is at least SEQ_MS and no number of the batch passes SEQ_MS + D.
 fn in_range(seqhe: u64, seqms: u64, n: u8) -> bool
-    requires { ⌜ (n ≤ mostVectors) × (seqhe ≤ limit width) × (seqms ≤ limit width) ⌝ }
+    requires { ⌜ (n ≤ mostVectors) × (seqhe < 2 ^ sqnBits) × (seqms < 2 ^ sqnBits) ⌝ }
     ensures { λ r. ⌜ r ≡ inRange seqhe seqms n ⌝ }
 {
     if seqhe < seqms {
@@ -70,6 +71,7 @@ fn mac_s_right(
 pub fn decide(
     table: &[u32; 256],
     schedule: &[u32; 44],
+    edition: u8,
     keys: Keys,
     rand: [u8; aka::RAND_SIZE],
     auts: [u8; aka::AUTS_SIZE],
@@ -77,12 +79,13 @@ pub fn decide(
     n: u8,
 ) -> Ruling
     requires made { ⌜ IsRoundTable (now table) × IsSchedule (keysOf keys) (now schedule) ⌝ }
-    requires room { ⌜ (n ≤ mostVectors) × (seqhe ≤ limit width) ⌝ }
-    ensures { λ r. ⌜ Ruled (sets .under (keysOf keys)) rand auts seqhe n r ⌝ }
+    requires room { ⌜ (n ≤ mostVectors) × (seqhe ≤ limit (widthOf editions edition)) ⌝ }
+    ensures { λ r. ⌜ Ruled (widthOf editions edition) (sets .under (keysOf keys)) rand auts seqhe n r ⌝ }
 {
     let c = functions::prepare(table, schedule, keys, rand);
     let sqn = sqn_ms(table, schedule, c, auts);
-    let ms = tokens::sqn_number(sqn) / aka::INDICES;
+    let m = editions::row(edition);
+    let ms = tokens::sqn_number(sqn) / m.indices;
     if in_range(seqhe, ms, n) {
         return Ruling {
             refused: false,

@@ -6,7 +6,7 @@ use Rattle.octets.specs.Octets.{Octets, zeros}
 use Rattle.functions.specs.Sets.{sets}
 use Rattle.aka.specs.Layout.{autsSize}
 use Rattle.aka.specs.Usim.{Usim, Verdict, refused, unchanged, answerWith, challenge}
-use Rattle.aka.specs.Sequence.{width}
+use Rattle.aka.specs.Editions.{editions}
 use Rattle.aka.proofs.Verdicts.{answer-of}
 use Rattle.usim_record.specs.declared.Answer.{Answer}
 use Rattle.usim_record.specs.declared.Verdict as code
@@ -17,7 +17,7 @@ use Rattle.usim.specs.Judging.{AnswerFor}
 module _ (usim : Usim) (rand autn : Octets) (r : Answer) where
   -- a verdict that gives no SQN, and changes nothing
   pub unchanged-for : (v : code.Verdict) (auts : Octets) → sqnGiven v ≡ 0 → sqnDue (verdictOf v) usim rand autn ≡ 0
-      → answerWith width sets usim rand autn (verdictOf v) ≡ unchanged (verdictOf v) usim auts
+      → answerWith editions sets usim rand autn (verdictOf v) ≡ unchanged (verdictOf v) usim auts
       → (answerOf r ≡ unchanged (verdictOf v) usim auts) × (r .verdict ≡ v) → AnswerFor usim rand autn (verdictOf v) r
   unchanged-for v auts none undue with-it is = record {
     answer = is .0 ∙ sym with-it;
@@ -25,12 +25,12 @@ module _ (usim : Usim) (rand autn : Octets) (r : Answer) where
   }
 
   abbrev Whole : Type 0
-  Whole = (answerOf r ≡ challenge width sets usim rand autn) × SqnTold (r .verdict) usim rand autn
+  Whole = (answerOf r ≡ challenge editions sets usim rand autn) × SqnTold (r .verdict) usim rand autn
 
-  pub answered : (v : Verdict) → challenge width sets usim rand autn .verdict ≡ v → AnswerFor usim rand autn v r → Whole
-  answered v e a = (a .answer ∙ sym (answer-of width sets usim rand autn v e), a .sqn)
+  pub answered : (v : Verdict) → challenge editions sets usim rand autn .verdict ≡ v → AnswerFor usim rand autn v r → Whole
+  answered v e a = (a .answer ∙ sym (answer-of editions sets usim rand autn v e), a .sqn)
 
-  pub refusal : (n : ℕ) → challenge width sets usim rand autn .verdict ≡ refused n
+  pub refusal : (n : ℕ) → challenge editions sets usim rand autn .verdict ≡ refused n
       → (answerOf r ≡ unchanged (refused n) usim (zeros autsSize)) × (r .verdict ≡ Refused n) → Whole
   unfolding answerWith
   refusal n e is = answered (refused n) e (unchanged-for (Refused n) (zeros autsSize) refl refl refl is)

@@ -8,7 +8,8 @@ use Rattle.functions.specs.declared.Challenge.{Challenge}
 use Rattle.functions.specs.Challenge.{Prepared}
 use Rattle.functions.specs.Sets.{sets}
 use Rattle.aka.specs.Functions.{Keys}
-use Rattle.aka.specs.Sequence.{FitsSqn, width}
+use Rattle.aka.specs.Sequence.{FitsSqn}
+use Rattle.aka.specs.Editions.{editions}
 use Rattle.aka.specs.Usim.{Usim, Verdict, sqnIn, macRight, answerWith}
 use Rattle.usim_record.specs.declared.Answer.{Answer}
 use Rattle.usim_record.specs.Views.{answerOf, SqnTold}
@@ -23,5 +24,5 @@ pub record MacVerified (keys : Keys) (rand autn : Octets) (schedule : List ℕ) 
 
 -- the code's whole answer is the one that goes with a verdict
 pub record AnswerFor (usim : Usim) (rand autn : Octets) (verdict : Verdict) (r : Answer) : Type 0 where
-  pub answer : answerOf r ≡ answerWith width sets usim rand autn verdict
+  pub answer : answerOf r ≡ answerWith editions sets usim rand autn verdict
   pub sqn : SqnTold (r .verdict) usim rand autn

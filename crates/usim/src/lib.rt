@@ -15,8 +15,10 @@ ghost use Rattle.functions.specs.Challenge.{keysOf, Prepared};
 ghost use Rattle.functions.specs.Sets.{sets};
 ghost use Rattle.aka.specs.Functions.{Keys as KeysOf, dummyAmf};
 ghost use Rattle.aka.specs.Layout.{sqnSize};
-ghost use Rattle.aka.specs.Sequence.{width};
+ghost use Rattle.aka.specs.Sequence.{widthOf};
+ghost use Rattle.aka.specs.Editions.{editions};
 ghost use Rattle.aka.specs.Usim.{UsimShaped, validUsim, sqnIn, sqnMs, makeAuts, macRight, accepted, judgement, challenge as challengeOf};
+ghost use Rattle.editions.specs.Views.{Indices};
 ghost use Rattle.usim_record.specs.Views.{usimOf, answerOf, SqnTold};
 ghost use Rattle.usim.specs.Judging.{MacVerified, AnswerFor};
 
@@ -40,15 +42,22 @@ fn mac_right(
 }
 
 // AUTS of SQN_MS, concealed with AK*: f5* of RAND. The AMF of MAC-S is zero.
-fn auts(table: &[u32; 256], schedule: &[u32; 44], c: Challenge, usim: Usim) -> [u8; aka::AUTS_SIZE]
-    requires { ⌜ IsRoundTable (now table) × (validUsim width sets (usimOf usim) ≡ true) ⌝ }
+fn auts(
+    table: &[u32; 256],
+    schedule: &[u32; 44],
+    c: Challenge,
+    usim: Usim,
+    indices: u64,
+) -> [u8; aka::AUTS_SIZE]
+    requires { ⌜ IsRoundTable (now table) × (validUsim editions sets (usimOf usim) ≡ true) ⌝ }
+    requires numbered { ⌜ Indices (widthOf editions (usim .edition)) indices ⌝ }
     ensures { λ r. ⌜
         ((keys : KeysOf) (rand : Octets) → Prepared keys rand (now (schedule .entry)) c
-        → r ≡ makeAuts (sets .under keys) (encode sqnSize (sqnMs width (usimOf usim))) dummyAmf rand)
+        → r ≡ makeAuts (sets .under keys) (encode sqnSize (sqnMs (widthOf editions (usim .edition)) (usimOf usim))) dummyAmf rand)
         ⌝ }
 {
     let places = usim.places;
-    let sqn = tokens::sqn_octets(places::sqn_ms(places));
+    let sqn = tokens::sqn_octets(places::sqn_ms(places, indices));
     let ak = functions::f5s(table, schedule, c);
     let mac = functions::f1s(table, schedule, c, sqn, [0; aka::AMF_SIZE]);
     tokens::auts(sqn, ak, mac)
@@ -60,18 +69,20 @@ fn accept(
     schedule: &[u32; 44],
     c: Challenge,
     usim: Usim,
+    indices: u64,
     sqn: u64,
     res: [u8; aka::RES_SIZE],
 ) -> Answer
     requires { ⌜ IsRoundTable (now table) ⌝ }
+    requires numbered { ⌜ Indices (widthOf editions (usim .edition)) indices ⌝ }
     ensures { λ r. ⌜
         ((rand autn : Octets) → MacVerified (keysOf (usim .keys)) rand autn (now (schedule .entry)) c sqn res
         → AnswerFor (usimOf usim) rand autn accepted r)
         ⌝ }
 {
-    let ind = (sqn % aka::INDICES) as usize;
+    let ind = (sqn % indices) as usize;
     let mut next = usim;
-    next.places[ind] = sqn / aka::INDICES;
+    next.places[ind] = sqn / indices;
     let ck = functions::f3(table, schedule, c);
     let ik = functions::f4(table, schedule, c);
     Answer {
@@ -93,17 +104,22 @@ fn judge_sqn(
     sqn: u64,
     res: [u8; aka::RES_SIZE],
 ) -> Answer
-    requires { ⌜ IsRoundTable (now table) × (validUsim width sets (usimOf usim) ≡ true) ⌝ }
+    requires { ⌜ IsRoundTable (now table) × (validUsim editions sets (usimOf usim) ≡ true) ⌝ }
     ensures { λ r. ⌜
         ((rand autn : Octets) → MacVerified (keysOf (usim .keys)) rand autn (now (schedule .entry)) c sqn res
-        → AnswerFor (usimOf usim) rand autn (judgement width sets (usimOf usim) rand autn) r)
+        → AnswerFor (usimOf usim) rand autn (judgement editions sets (usimOf usim) rand autn) r)
         ⌝ }
 {
     let places = usim.places;
-    if !places::is_fresh(places, sqn / aka::INDICES, (sqn % aka::INDICES) as usize) {
-        return unchanged(Verdict::Sync, usim, auts(table, schedule, c, usim));
+    let m = editions::row(usim.edition);
+    if !places::is_fresh(places, sqn / m.indices, (sqn % m.indices) as usize) {
+        return unchanged(
+            Verdict::Sync,
+            usim,
+            auts(table, schedule, c, usim, m.indices),
+        );
     }
-    accept(table, schedule, c, usim, sqn, res)
+    accept(table, schedule, c, usim, m.indices, sqn, res)
 }
 
 // First MAC, then freshness.
@@ -114,10 +130,10 @@ fn judge(
     usim: Usim,
     autn: [u8; aka::AUTN_SIZE],
 ) -> Answer
-    requires { ⌜ IsRoundTable (now table) × (validUsim width sets (usimOf usim) ≡ true) ⌝ }
+    requires { ⌜ IsRoundTable (now table) × (validUsim editions sets (usimOf usim) ≡ true) ⌝ }
     ensures { λ r. ⌜
         ((rand : Octets) → Prepared (keysOf (usim .keys)) rand (now (schedule .entry)) c
-        → AnswerFor (usimOf usim) rand autn (judgement width sets (usimOf usim) rand autn) r)
+        → AnswerFor (usimOf usim) rand autn (judgement editions sets (usimOf usim) rand autn) r)
         ⌝ }
 {
     let both = functions::f2_f5(table, schedule, c);
@@ -132,8 +148,8 @@ fn judge(
 
 // The answer of a valid USIM to a challenge of the lengths named. Round table and key schedule are made once and lent.
 fn authenticate(usim: Usim, rand: [u8; aka::RAND_SIZE], autn: [u8; aka::AUTN_SIZE]) -> Answer
-    requires { ⌜ validUsim width sets (usimOf usim) ≡ true ⌝ }
-    ensures { λ r. ⌜ AnswerFor (usimOf usim) rand autn (judgement width sets (usimOf usim) rand autn) r ⌝ }
+    requires { ⌜ validUsim editions sets (usimOf usim) ≡ true ⌝ }
+    ensures { λ r. ⌜ AnswerFor (usimOf usim) rand autn (judgement editions sets (usimOf usim) rand autn) r ⌝ }
 {
     let keys = usim.keys;
     let table = aes::round_table();
@@ -145,10 +161,10 @@ fn authenticate(usim: Usim, rand: [u8; aka::RAND_SIZE], autn: [u8; aka::AUTN_SIZ
 // The USIM's whole answer to a challenge of any octets.
 pub fn challenge(usim: Usim, rand: &[u8], autn: &[u8]) -> Answer
     ensures answer { λ r. ⌜
-        answerOf r ≡ challengeOf width sets (usimOf usim) (now (rand .entry)) (now (autn .entry))
+        answerOf r ≡ challengeOf editions sets (usimOf usim) (now (rand .entry)) (now (autn .entry))
         ⌝ }
     ensures sqn { λ r. ⌜ SqnTold (r .verdict) (usimOf usim) (now (rand .entry)) (now (autn .entry)) ⌝ }
-    ensures shape { λ _. ⌜ UsimShaped width (usimOf usim) ⌝ }
+    ensures shape { λ _. ⌜ UsimShaped editions (usimOf usim) ⌝ }
 {
     if !is_valid(usim) {
         return unchanged(Verdict::Refused(1), usim, [0; aka::AUTS_SIZE]);

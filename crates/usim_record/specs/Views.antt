@@ -13,7 +13,7 @@ use Rattle.usim_record.specs.declared.Verdict.the-variants.{Accepted, Sy
 
 -- the record
 abbrev pub usimOf : declaredUsim.Usim → aka.Usim
-usimOf u = record { keys = keysOf (u .keys); places = u .places }
+usimOf u = record { edition = u .edition; keys = keysOf (u .keys); places = u .places }
 
 -- the verdict; `aka.refusalOf` has its number
 abbrev pub verdictOf : Verdict → aka.Verdict

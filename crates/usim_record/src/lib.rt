@@ -4,15 +4,16 @@ ghost use mathlib.Core.Path.{_≡_};
 ghost use Rattle.functions.specs.Challenge.{keysOf};
 ghost use Rattle.functions.specs.Sets.{sets};
 ghost use Rattle.aka.specs.Usim.{newUsim, validUsim, unchanged as unchangedOf};
-ghost use Rattle.aka.specs.Sequence.{width};
+ghost use Rattle.aka.specs.Editions.{editions};
 ghost use Rattle.usim_record.specs.Views.{usimOf, verdictOf, answerOf};
 
 pub mod places;
 
-// The places of the card hold a SEQ for each index.
+// The places of the card hold a SEQ for each index of its edition, and zeros behind them.
 pub struct Usim {
+    pub edition: u8,
     pub keys: Keys,
-    pub places: [u64; aka::PLACES],
+    pub places: [u64; editions::PLACES],
 }
 
 // An acceptance has its SQN, a refusal its number.
@@ -34,25 +35,30 @@ pub struct Answer {
 }
 
 // A new USIM: all places 0.
-pub fn new(keys: Keys) -> Usim
-    ensures { λ r. ⌜ usimOf r ≡ newUsim width (keysOf keys) ⌝ }
+pub fn new(edition: u8, keys: Keys) -> Usim
+    ensures { λ r. ⌜ usimOf r ≡ newUsim editions edition (keysOf keys) ⌝ }
 {
     Usim {
+        edition,
         keys,
-        places: [0; aka::PLACES],
+        places: [0; editions::PLACES],
     }
 }
 
 // Whether refusal 1 does not apply.
 pub fn is_valid(usim: Usim) -> bool
-    ensures { λ r. ⌜ r ≡ validUsim width sets (usimOf usim) ⌝ }
+    ensures { λ r. ⌜ r ≡ validUsim editions sets (usimOf usim) ⌝ }
 {
     let keys = usim.keys;
     let places = usim.places;
-    if !functions::is_known(keys.set) {
+    if !functions::admits(usim.edition, keys) {
         return false;
     }
-    places::within(places)
+    let m = editions::row(usim.edition);
+    if !places::within(places, m.limit) {
+        return false;
+    }
+    places::zero_from(places, m.indices as usize)
 }
 
 // An answer that changes nothing and gives no keys.

@@ -3,13 +3,14 @@ use Prim.Native.Nat.{ℕ}
 use mathlib.Core.Bool.{true}
 use mathlib.Core.List.{[], _∷_}
 use mathlib.Core.Path.{_≡_, refl, ap, _∙_}
-use native.Mathlib.Omega.{arith}
 use denote.Enum.Declared.{tagOf}
 use types.Run.{OneOf, miss}
 use lib.ListN.{length}
 use Rattle.octets.specs.Octets.{Octets, decode}
 use Rattle.functions.specs.Sets.{sets}
-use Rattle.aka.specs.Sequence.{width, FitsSqn}
+use Rattle.aka.specs.Sequence.{FitsSqn, widthOf}
+use Rattle.aka.specs.Editions.{editions}
+use Rattle.aka.proofs.Editions.{fitting}
 use Rattle.aka.specs.Usim.{Usim, UsimAnswer, Verdict, accepted, validUsim, sqnIn, challenge}
 use Rattle.aka.proofs.Verdicts as law
 use Rattle.usim_record.specs.declared.Answer.{Answer}
@@ -24,8 +25,8 @@ use Rattle.interface_answers.specs.Answers.{usimImageAfter}
 use Rattle.vetrhoss.specs.Interface.{Returned, UsimOctets, bufferAfter, usimReturns}
 
 -- an image that was read has its length and a valid record
-pub read-valid : (x : Octets) (r : Read Usim) → r ≡ readAnswer (format width sets) x → r .refusal ≡ 0
-    → (length x ≡ imageSize width) × (validUsim width sets (r .contents) ≡ true)
+pub read-valid : (x : Octets) (r : Read Usim) → r ≡ readAnswer (format editions sets) x → r .refusal ≡ 0
+    → (length x ≡ imageSize (widthOf editions (r .contents .edition))) × (validUsim editions sets (r .contents) ≡ true)
 read-valid x r e none = rw e (round-trips .sound x (rw e at none))
 
 -- ---- what is returned, as the code has it
@@ -47,7 +48,7 @@ module _ (a : Answer) (lent : UsimOctets) where
 
   pub given : OneOf (0 ∷ 1 ∷ 2 ∷ []) (tagOf the-type (a .verdict)) → {result : ℕ} {image res ck ik auts : Octets}
       → (result ≡ verdictResult (verdictOf (a .verdict)) (sqnGiven (a .verdict)))
-      × (image ≡ usimImageAfter (verdictOf (a .verdict)) (lent .image) (usimImage width (usimOf (a .usim))))
+      × (image ≡ usimImageAfter (verdictOf (a .verdict)) (lent .image) (usimImage editions (usimOf (a .usim))))
       → (res ≡ a .res) × (ck ≡ a .ck) × (ik ≡ a .ik) × (auts ≡ a .auts)
       → record { result = result; octets = record { image = image; res = res; ck = ck; ik = ik; auts = auts } } ≡ asReturned
   given other handed parts =
@@ -65,7 +66,7 @@ module _ (a : Answer) (lent : UsimOctets) where
 
 module _ (card : Usim) (rand autn : Octets) where
   abbrev due : UsimAnswer
-  due = challenge width sets card rand autn
+  due = challenge editions sets card rand autn
 
   -- the code's answer and SQN are the ones due
   pub handed-on : (lent : UsimOctets) (a : UsimAnswer) {sqn : ℕ} → a ≡ due → sqn ≡ sqnDue (a .verdict) card rand autn
@@ -77,10 +78,14 @@ module _ (card : Usim) (rand autn : Octets) where
       → FitsSqn (decode (sqnIn (sets .under (card .keys)) rand autn))
   sqn-fits v q h = rw q at h
 
-  -- the next record is valid
-  pub next-valid : validUsim width sets card ≡ true → (a : UsimAnswer) {sqn : ℕ} → a ≡ due → sqn ≡ sqnDue (a .verdict) card rand autn
-      → FitsSqn sqn → validUsim width sets (a .usim) ≡ true
+  -- the next record is of the same edition
+  pub same-edition : (a : UsimAnswer) → a ≡ due → a .usim .edition ≡ card .edition
+  same-edition a e = ap (λ (b : UsimAnswer). b .usim .edition) e ∙ law.same-edition editions sets card rand autn
+
+  -- and valid
+  pub next-valid : validUsim editions sets card ≡ true → (a : UsimAnswer) {sqn : ℕ} → a ≡ due → sqn ≡ sqnDue (a .verdict) card rand autn
+      → FitsSqn sqn → validUsim editions sets (a .usim) ≡ true
   next-valid valid a e s fits =
       let verdict = ap (λ (b : UsimAnswer). b .verdict) e in
-      ap (λ (b : UsimAnswer). validUsim width sets (b .usim)) e
-      ∙ law.next-valid width sets card rand autn (omega arith) valid (λ q. sqn-fits (a .verdict) (verdict ∙ q) (rw s at fits))
+      ap (λ (b : UsimAnswer). validUsim editions sets (b .usim)) e
+      ∙ law.next-valid editions sets card rand autn fitting valid (λ q. sqn-fits (a .verdict) (verdict ∙ q) (rw s at fits))

@@ -9,12 +9,13 @@ use lib.ListN.{length}
 use Rattle.octets.specs.Octets.{Octets}
 use Rattle.aes.specs.Cipher.{aes}
 use Rattle.milenage.specs.Opc.{opc}
-use Rattle.functions.specs.Sets.{sets}
+use Rattle.functions.specs.Sets.{isSet, sets}
 use Rattle.aka.specs.Layout.{keySize, amfSize, vectorOffset}
 use Rattle.aka.specs.Triplets.{convert}
 use Rattle.aka.specs.Usim as card
 use Rattle.aka.specs.Auc as centre
-use Rattle.aka.specs.Sequence.{width}
+use Rattle.aka.specs.Sequence.{widthOf}
+use Rattle.aka.specs.Editions.{editions, isEdition}
 use Rattle.usim_record.specs.Views.{sqnDue}
 use Rattle.usim_image.specs.Image as usim
 use Rattle.auc_image.specs.Image as auc
@@ -41,18 +42,18 @@ opcCall k op buffer =
     (done (opc (aes k) op))
 
 -- a new card
-unfoldable pub newUsimCall : (set : ℕ) (k opc buffer : Octets) → Returned Octets
-newUsimCall set k opc buffer =
-    cond (not (sets .known set)) (refused 1 buffer)
-    (cond (not (areKeys k opc && has (usim.imageSize width) buffer)) (refused 3 buffer)
-    (done (usim.image width (card.newUsim width (record { set = set; k = k; opc = opc })))))
+unfoldable pub newUsimCall : (edition set : ℕ) (k opc buffer : Octets) → Returned Octets
+newUsimCall edition set k opc buffer =
+    cond (not (isEdition edition && isSet set)) (refused 1 buffer)
+    (cond (not (areKeys k opc && has (usim.imageSize (widthOf editions edition)) buffer)) (refused 3 buffer)
+    (done (usim.image editions (card.newUsim editions edition (record { set = set; k = k; opc = opc })))))
 
 -- a new centre
-unfoldable pub newAucCall : (set : ℕ) (k opc amf buffer : Octets) → Returned Octets
-newAucCall set k opc amf buffer =
-    cond (not (sets .known set)) (refused 1 buffer)
+unfoldable pub newAucCall : (edition set : ℕ) (k opc amf buffer : Octets) → Returned Octets
+newAucCall edition set k opc amf buffer =
+    cond (not (isEdition edition && isSet set)) (refused 1 buffer)
     (cond (not (areKeys k opc && has amfSize amf && has auc.imageSize buffer)) (refused 3 buffer)
-    (done (auc.image width (centre.newAuc (record { set = set; k = k; opc = opc }) amf))))
+    (done (auc.image editions (centre.newAuc edition (record { set = set; k = k; opc = opc }) amf))))
 
 -- ---- the card
 
@@ -76,7 +77,7 @@ abbrev pub usimReturns : card.UsimAnswer → (sqn : ℕ) → UsimOctets → Retu
 usimReturns a sqn lent = record {
   result = verdictResult (a .verdict) sqn;
   octets = record {
-    image = usimImageAfter (a .verdict) (lent .image) (usim.image width (a .usim));
+    image = usimImageAfter (a .verdict) (lent .image) (usim.image editions (a .usim));
     res = bufferAfter (a .verdict) (lent .res) (a .res);
     ck = bufferAfter (a .verdict) (lent .ck) (a .ck);
     ik = bufferAfter (a .verdict) (lent .ik) (a .ik);
@@ -87,8 +88,8 @@ usimReturns a sqn lent = record {
 -- a challenge of the card that an image holds
 unfoldable pub challengeCall : (lent : UsimOctets) (rand autn : Octets) → Returned UsimOctets
 challengeCall lent rand autn =
-    let held = usim.readAnswer (usim.format width sets) (lent .image) in
-    let answer = card.challenge width sets (held .contents) rand autn in
+    let held = usim.readAnswer (usim.format editions sets) (lent .image) in
+    let answer = card.challenge editions sets (held .contents) rand autn in
     cond (not (eqb (held .refusal) 0)) (refused (held .refusal) lent)
     (cond (not (answerSized (lent .res) (lent .ck) (lent .ik) (lent .auts))) (refused 3 lent)
     (usimReturns answer (sqnDue (answer .verdict) (held .contents) rand autn) lent))
@@ -104,21 +105,21 @@ pub record AucOctets : Type 0 where
 abbrev pub aucReturns : centre.AucAnswer → (image : Octets) → Returned AucOctets
 aucReturns a image = record {
   result = outcomeResult (a .outcome);
-  octets = record { image = aucImageAfter (a .outcome) image (auc.image width (a .auc)); batch = a .batch };
+  octets = record { image = aucImageAfter (a .outcome) image (auc.image editions (a .auc)); batch = a .batch };
 }
 
 -- the record that an image holds is asked
 unfoldable pub onImage : (lent : AucOctets) → (centre.Auc → centre.AucAnswer) → Returned AucOctets
 onImage lent ask =
-    let held = auc.readAnswer (auc.format width sets) (lent .image) in
+    let held = auc.readAnswer (auc.format editions sets) (lent .image) in
     cond (not (eqb (held .refusal) 0)) (refused (held .refusal) lent)
     (aucReturns (ask (held .contents)) (lent .image))
 
 abbrev pub orderCall : (lent : AucOctets) (count : ℕ) (rands : Octets) → Returned AucOctets
-orderCall lent count rands = onImage lent (λ auc. centre.order width sets auc count rands (lent .batch))
+orderCall lent count rands = onImage lent (λ auc. centre.order editions sets auc count rands (lent .batch))
 
 abbrev pub resyncCall : (lent : AucOctets) (count : ℕ) (rand auts rands : Octets) → Returned AucOctets
-resyncCall lent count rand auts rands = onImage lent (λ auc. centre.resync width sets auc count rands (lent .batch) rand auts)
+resyncCall lent count rand auts rands = onImage lent (λ auc. centre.resync editions sets auc count rands (lent .batch) rand auts)
 
 -- ---- where the vector at place k begins in a batch
 

@@ -31,12 +31,21 @@ pub extern "C" fn vetrhoss_opc(k: &[u8], op: &[u8], opc: &mut [u8]) -> u64
 
 // The image of a new card: all places 0.
 #[no_mangle]
-pub extern "C" fn vetrhoss_new_usim(set: u8, k: &[u8], opc: &[u8], image: &mut [u8]) -> u64
+pub extern "C" fn vetrhoss_new_usim(
+    edition: u8,
+    set: u8,
+    k: &[u8],
+    opc: &[u8],
+    image: &mut [u8],
+) -> u64
     ensures { λ r. ⌜
         record { result = r; octets = now (image .exit) }
-        ≡ newUsimCall set (now (k .entry)) (now (opc .entry)) (now (image .entry))
+        ≡ newUsimCall edition set (now (k .entry)) (now (opc .entry)) (now (image .entry))
         ⌝ }
 {
+    if !editions::is_known(edition) {
+        return 1;
+    }
     if !functions::is_known(set) {
         return 1;
     }
@@ -44,12 +53,13 @@ pub extern "C" fn vetrhoss_new_usim(set: u8, k: &[u8], opc: &[u8], image: &mut [
         return 3;
     }
     let keys = buffers::keys_from(set, k, opc);
-    usim_image::write(usim::new(keys), image) as u64
+    usim_image::write(usim::new(edition, keys), image) as u64
 }
 
 // The image of a new centre: SEQ_HE and the next index are 0.
 #[no_mangle]
 pub extern "C" fn vetrhoss_new_auc(
+    edition: u8,
     set: u8,
     k: &[u8],
     opc: &[u8],
@@ -58,9 +68,12 @@ pub extern "C" fn vetrhoss_new_auc(
 ) -> u64
     ensures { λ r. ⌜
         record { result = r; octets = now (image .exit) }
-        ≡ newAucCall set (now (k .entry)) (now (opc .entry)) (now (amf .entry)) (now (image .entry))
+        ≡ newAucCall edition set (now (k .entry)) (now (opc .entry)) (now (amf .entry)) (now (image .entry))
         ⌝ }
 {
+    if !editions::is_known(edition) {
+        return 1;
+    }
     if !functions::is_known(set) {
         return 1;
     }
@@ -71,7 +84,7 @@ pub extern "C" fn vetrhoss_new_auc(
         return 3;
     }
     let keys = buffers::keys_from(set, k, opc);
-    auc_image::write(auc::new(keys, [amf[0], amf[1]]), image) as u64
+    auc_image::write(auc::new(edition, keys, [amf[0], amf[1]]), image) as u64
 }
 
 // The card's answer to a challenge; the image changes with an acceptance.

@@ -1,5 +1,6 @@
-//! A card is issued, challenged, brought out of step and resynchronised; the
-//! vectors are made triplets too. Run, from the repository's root:
+//! A card of edition 2 is issued, challenged, brought out of step and
+//! resynchronised; a vector comes late, and the vectors are made triplets too.
+//! Run, from the repository's root:
 //!
 //!     rt staticlib vetrhoss
 //!     cargo run --offline --manifest-path examples/rust/Cargo.toml
@@ -9,8 +10,8 @@
 //! RAND come from a good source of random numbers, and images are kept in safe
 //! storage.
 
-use vetrhoss::{AnswerBuffers, Error, Failure, SeqHe, MILENAGE};
-use vetrhoss::{AMF_SIZE, AUC_IMAGE_SIZE, OPC_SIZE, USIM_IMAGE_SIZE, VECTOR_SIZE};
+use vetrhoss::{AnswerBuffers, Error, Failure, SeqHe, EDITION_2, MILENAGE};
+use vetrhoss::{AMF_SIZE, AUC_IMAGE_SIZE_2, OPC_SIZE, USIM_IMAGE_SIZE_2, VECTOR_SIZE};
 use vetrhoss::{AUTN_OFFSET, CK_OFFSET, IK_OFFSET, RAND_OFFSET, XRES_OFFSET};
 use vetrhoss::{AUTN_SIZE, AUTS_SIZE, CK_SIZE, IK_SIZE, RAND_SIZE, RES_SIZE};
 use vetrhoss::{KC_OFFSET, KC_SIZE, SRES_OFFSET, SRES_SIZE, TRIPLET_SIZE};
@@ -24,8 +25,8 @@ const PUBLISHED_RES: u64 = 0xa54211d5e3ba50bf;
 
 const VECTORS: u8 = 5;
 
-type Card = [u8; USIM_IMAGE_SIZE];
-type Centre = [u8; AUC_IMAGE_SIZE];
+type Card = [u8; USIM_IMAGE_SIZE_2];
+type Centre = [u8; AUC_IMAGE_SIZE_2];
 
 /// The parts of a vector.
 struct Vector<'a> {
@@ -64,8 +65,11 @@ fn main() -> Result<(), Error> {
     );
     accepted_challenge(&mut card, &first)?;
 
-    println!("three vectors are lost and the last is used");
+    println!("three vectors are passed over and the last is used");
     accepted_challenge(&mut card, &vector_at(&batch, 4)?)?;
+
+    println!("the second comes late");
+    accepted_challenge(&mut card, &vector_at(&batch, 1)?)?;
 
     println!("the first challenge comes once more");
     let (repeated, answer) = challenge(&mut card, &first);
@@ -101,15 +105,15 @@ fn convert(batch: &[u8]) -> Result<(), Error> {
 /// OPc from OP, and the two images that a new card begins with.
 fn issue() -> Result<(Card, Centre), Error> {
     let (k, op, mut opc) = (K.to_be_bytes(), OP.to_be_bytes(), [0; OPC_SIZE]);
-    let (mut card, mut centre) = ([0; USIM_IMAGE_SIZE], [0; AUC_IMAGE_SIZE]);
+    let (mut card, mut centre) = ([0; USIM_IMAGE_SIZE_2], [0; AUC_IMAGE_SIZE_2]);
     vetrhoss::opc(&k, &op, &mut opc)?;
     expect(
         opc == PUBLISHED_OPC.to_be_bytes(),
         "OPc is the published one",
     );
     show("OPc ", &opc);
-    vetrhoss::new_usim(MILENAGE, &k, &opc, &mut card)?;
-    vetrhoss::new_auc(MILENAGE, &k, &opc, &AMF, &mut centre)?;
+    vetrhoss::new_usim(EDITION_2, MILENAGE, &k, &opc, &mut card)?;
+    vetrhoss::new_auc(EDITION_2, MILENAGE, &k, &opc, &AMF, &mut centre)?;
     Ok((card, centre))
 }
 

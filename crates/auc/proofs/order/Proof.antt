@@ -2,10 +2,9 @@
 use Prim.Native.Nat.{ℕ}
 use mathlib.Core.Bool.{true}
 use mathlib.Core.Path.{refl, _∙_}
-use native.Mathlib.Omega.{arith}
 use Rattle.octets.specs.Octets.{Octets}
 use Rattle.functions.specs.Sets.{sets}
-use Rattle.aka.specs.Sequence.{width}
+use Rattle.aka.specs.Editions.{editions}
 use Rattle.aka.specs.Auc.{Auc, Outcome, given, unlessPast}
 use Rattle.auc_record.specs.Views.{aucOf}
 use Rattle.auc.proofs.Answers.{Asked, asked, when-refused, when-asked, order-is}
@@ -45,7 +44,7 @@ module _ (c : tie.After-check) where
   from m = auc .seqhe
 
   abbrev outcome : (m : ℕ) → Outcome
-  outcome m = unlessPast width sets auc (auc .seqhe) m given
+  outcome m = unlessPast editions sets auc (auc .seqhe) m given
 
 -- the count that results, where refusals 1 to 4 do not apply
 request : (c : tie.After-known-told2) →
@@ -58,7 +57,7 @@ generate-requires c κs =
     let s = scheduled c in
     let r = request (counted s) in (
       (s .before .round-table .ensures, s .schedule .ensures),
-      ((r .few, omega (arith, r .seqhe), r .next), ((r .rands-size, r .buffer-size), refl)),
+      ((r .few, r .seqhe), ((r .rands-size, r .buffer-size), refl)),
     )
 
 returns : tie.Need-returns

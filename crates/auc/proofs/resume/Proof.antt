@@ -3,7 +3,7 @@ use Prim.Native.Nat.{ℕ}
 use mathlib.Core.Bool.{Bool, cond}
 use mathlib.Core.Path.{_≡_, refl, sym, ap, ap₂, _∙_}
 use Rattle.functions.specs.Sets.{sets}
-use Rattle.aka.specs.Sequence.{width}
+use Rattle.aka.specs.Editions.{editions}
 use Rattle.aka.specs.Auc.{Auc, AucAnswer, Outcome, kept, reset, refused, refusalOf, unlessPast, answerWith, resyncFrom}
 use Rattle.aka.proofs.Outcomes.{auts-five, auts-on, told-batch, answer-refused}
 use Rattle.auc_record.specs.Views.{aucOf}
@@ -27,10 +27,10 @@ module _ (s : tie.Start) where
   auc = aucOf (s .args .auc)
 
   abbrev answer : (from : ℕ) → Outcome → AucAnswer
-  answer from o = answerWith width sets auc from (s .args .rands .now) (s .args .n) (s .args .batch .now) o
+  answer from o = answerWith editions sets auc from (s .args .rands .now) (s .args .n) (s .args .batch .now) o
 
   abbrev from : ℕ
-  from = resyncFrom width sets auc (s .args .rand) (s .args .auts) (s .args .n)
+  from = resyncFrom editions sets auc (s .args .rand) (s .args .auts) (s .args .n)
 
 returns : tie.Need-returns
 returns c =
@@ -38,8 +38,8 @@ returns c =
     let s = entry (scheduled d) in
     let args = s .args in
     let wrong = sym (d .decide .ensures .refused) ∙ c .before .if1 .taken in
-    let five = auts-five width sets (auc s) (args .rand) (args .auts) (args .n) wrong in
-    let none = answer-refused width sets (auc s) (from s) (args .rands .now) (args .n) (args .batch .now) (refused 5) refl in
+    let five = auts-five editions sets (auc s) (args .rand) (args .auts) (args .n) wrong in
+    let none = answer-refused editions sets (auc s) (from s) (args .rands .now) (args .n) (args .batch .now) (refused 5) refl in
     c .refused .ensures (args .batch .now) ∙ sym (ap (answer s (from s)) five ∙ none)
 
 generate-requires : tie.Need-generate-requires
@@ -50,7 +50,7 @@ generate-requires c κs =
     let room = entry k .pre .0 in
     let lent = entry k .pre .1 in
     let batch = ap refusalOf (t .told .ensures) ∙ told-batch (d .decide .result .kept) in
-    ((k .before .round-table .ensures, k .schedule .ensures), ((room .0, d .decide .ensures .within, room .2), (lent, batch)))
+    ((k .before .round-table .ensures, k .schedule .ensures), ((room .0, d .decide .ensures .within), (lent, batch)))
 
 returns-2 : tie.Need-returns-2
 returns-2 c =
@@ -60,10 +60,10 @@ returns-2 c =
     let s = entry (scheduled d) in
     let args = s .args in
     let ruled = d .decide .ensures in
-    let on = auts-on width sets (auc s) (args .rand) (args .auts) (args .n) (sym (ruled .refused) ∙ t .before .if1 .left) in
+    let on = auts-on editions sets (auc s) (args .rand) (args .auts) (args .n) (sym (ruled .refused) ∙ t .before .if1 .left) in
     let outcome = t .told .ensures ∙ ap (λ (b : Bool). cond b kept reset) (ruled .kept) in
     g .generate .ensures
-    ∙ ap₂ (λ (x : ℕ) (o : Outcome). answer s x (unlessPast width sets (auc s) x (args .n) o)) (ruled .from) outcome
+    ∙ ap₂ (λ (x : ℕ) (o : Outcome). answer s x (unlessPast editions sets (auc s) x (args .n) o)) (ruled .from) outcome
     ∙ ap (answer s (from s)) (sym on)
 
 pub resume-spec : {M : Type 1} → statement M

@@ -5,7 +5,7 @@ use mathlib.Core.Path.{ap₂, _∙_}
 use lib.ListN.{length}
 use Rattle.octets.specs.Octets.{Octets}
 use Rattle.functions.specs.Sets.{sets}
-use Rattle.aka.specs.Sequence.{width}
+use Rattle.aka.specs.Editions.{editions}
 use Rattle.aka.specs.Auc.{Auc, AucShaped, AucAnswer, Outcome, countOf, defaultCount, lentAuts, resyncFrom, autsOutcome, answerWith}
 use Rattle.aka.proofs.Outcomes.{lent-auts-iff}
 use Rattle.auc_record.specs.Views.{aucOf}
@@ -72,18 +72,18 @@ fourteen-requires c κs = lent-auts-iff _ _ .0 (request (c .before) .rest) .1
 resume-requires : tie.Need-resume-requires
 resume-requires c κs =
     let r = request (counted (c .before)) in
-    ((r .few, r .seqhe, r .next), (r .rands-size, r .buffer-size))
+    ((r .few, r .seqhe), (r .rands-size, r .buffer-size))
 
 -- the batch follows SEQ_HE, kept or reset; the outcome behind refusals 1 to 4; both by the count that results
 abbrev from : tie.After-check → (m : ℕ) → ℕ
-from k m = resyncFrom width sets (auc k) (rand k) (auts k) m
+from k m = resyncFrom editions sets (auc k) (rand k) (auts k) m
 
 abbrev outcome : tie.After-check → (m : ℕ) → Outcome
-outcome k m = autsOutcome width sets (auc k) (rand k) (auts k) m
+outcome k m = autsOutcome editions sets (auc k) (rand k) (auts k) m
 
 abbrev answer : tie.After-check → (m : ℕ) (rand auts : Octets) → AucAnswer
 answer k m x y =
-    answerWith width sets (auc k) (resyncFrom width sets (auc k) x y m) (rands k) m (buffer k) (autsOutcome width sets (auc k) x y m)
+    answerWith editions sets (auc k) (resyncFrom editions sets (auc k) x y m) (rands k) m (buffer k) (autsOutcome editions sets (auc k) x y m)
 
 returns : tie.Need-returns
 returns c =

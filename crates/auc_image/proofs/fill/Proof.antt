@@ -6,7 +6,7 @@ use Rattle.octets.specs.Octets.{Octets}
 use Rattle.octets.proofs.PartByPart.{filled, put-next, filled-all}
 use Rattle.functions.specs.Sets.{sets}
 use Rattle.aka.specs.Layout.{amfSize, sqnSize}
-use Rattle.aka.specs.Sequence.{width}
+use Rattle.aka.specs.Editions.{editions}
 use Rattle.aka.proofs.Outcomes.{valid-iff}
 use Rattle.auc_record.specs.Views.{aucOf}
 use Rattle.images.specs.Head.{head, headSize}
@@ -31,7 +31,7 @@ entry c = c .before .before .before .before
 put-head-requires : tie.Need-put-head-requires
 put-head-requires c κs =
     let start = entry (c .before) in
-    (omega (arith, start .pre .1), valid-iff width sets (aucOf (start .args .auc)) .0 (start .pre .0) .0)
+    (omega (arith, start .pre .1), valid-iff editions sets (aucOf (start .args .auc)) .0 (start .pre .0) .0)
 
 returns : tie.Need-returns
 unfolding image
@@ -47,12 +47,12 @@ returns c =
     let same = first .put-head .kept .0 in
     let same2 = second .put-amf .kept .0 ∙ same in
     let last = counters .counters-of .result in
-    let one = filled d (head (auc .keys)) headSize (first .put-head .ensures) same (omega arith) in
+    let one = filled d (head (auc .edition) (auc .keys)) headSize (first .put-head .ensures) same (omega arith) in
     let two = put-next (auc .amf) amfSize one (second .put-amf .ensures) same2 (omega arith) in
     let three = put-next last sqnSize two (third .put-counters .ensures) (third .put-counters .kept .0 ∙ same2) (omega arith) in
     filled-all three size
-    ∙ append-assoc (head (auc .keys)) (auc .amf) last
-    ∙ ap (λ (x : Octets). head (auc .keys) ++ (auc .amf ++ x)) (counters .counters-of .ensures)
+    ∙ append-assoc (head (auc .edition) (auc .keys)) (auc .amf) last
+    ∙ ap (λ (x : Octets). head (auc .edition) (auc .keys) ++ (auc .amf ++ x)) (counters .counters-of .ensures)
 
 pub fill-spec : {M : Type 1} → statement M
 fill-spec =

@@ -12,7 +12,7 @@ returns : tie.Need-returns
 returns c =
     let made = c .before in
     ap (λ (a : Auc). record { refusal = made .before .args .number; contents = a })
-    (c .new .ensures ∙ ap (λ (keys : Keys). newAuc keys (zeros amfSize)) (made .no-keys .ensures))
+    (c .new .ensures ∙ ap (λ (keys : Keys). newAuc 0 keys (zeros amfSize)) (made .no-keys .ensures))
 
 pub refused-read-spec : {M : Type 1} → statement M
 refused-read-spec = tie.close (tie.spec (λ c κs. search needs) (λ c κs. search needs) returns)

@@ -7,7 +7,7 @@ use lib.ListN.{length}
 use Rattle.octets.specs.Octets.{Octets}
 use Rattle.functions.specs.Sets.{sets}
 use Rattle.aka.specs.Layout.{randSize, vectorSize, mostVectors}
-use Rattle.aka.specs.Sequence.{width}
+use Rattle.aka.specs.Editions.{editions}
 use Rattle.aka.specs.Auc as aka
 use Rattle.aka.specs.Auc.{lentFor}
 use Rattle.aka.proofs.Outcomes.{refusal-1, refusal-2, refusal-3, refusal-4, not-refused}
@@ -35,7 +35,7 @@ n c = aka.countOf (entry c .args .default) (entry c .args .count)
 abbrev lent : tie.After-is-valid → Bool
 lent c = lentFor (n c) (length (rands c)) (entry c .args .size) && entry c .args .lent
 
-valid : (c : tie.Else1) → aka.validAuc width sets (auc (c .before)) ≡ true
+valid : (c : tie.Else1) → aka.validAuc editions sets (auc (c .before)) ≡ true
 valid c = sym (c .before .is-valid .ensures) ∙ not-false _ (c .if1 .left)
 
 abbrev start : tie.After-count-of → tie.After-is-valid
@@ -65,24 +65,24 @@ pair-is c = rw (← counted (c .before .before) .count-of .ensures) (sym (c .equ
 
 module _ (s : tie.After-is-valid) (rest : aka.Outcome) where
   abbrev outcome : aka.Outcome
-  outcome = aka.unlessRefused width sets (auc s) (entry s .args .count) (n s) (lent s) (rands s) rest
+  outcome = aka.unlessRefused editions sets (auc s) (entry s .args .count) (n s) (lent s) (rands s) rest
 
-  first : aka.validAuc width sets (auc s) ≡ false → outcome ≡ aka.refused 1
-  first = refusal-1 width sets (auc s) (entry s .args .count) (n s) (lent s) (rands s) rest
+  first : aka.validAuc editions sets (auc s) ≡ false → outcome ≡ aka.refused 1
+  first = refusal-1 editions sets (auc s) (entry s .args .count) (n s) (lent s) (rands s) rest
 
-  module _ (v : aka.validAuc width sets (auc s) ≡ true) where
+  module _ (v : aka.validAuc editions sets (auc s) ≡ true) where
     second : mostVectors < entry s .args .count → outcome ≡ aka.refused 2
-    second = refusal-2 width sets (auc s) (entry s .args .count) (n s) (lent s) (rands s) rest v
+    second = refusal-2 editions sets (auc s) (entry s .args .count) (n s) (lent s) (rands s) rest v
 
     module _ (few : entry s .args .count ≤ mostVectors) where
       third : lent s ≡ false → outcome ≡ aka.refused 3
-      third = refusal-3 width sets (auc s) (entry s .args .count) (n s) (lent s) (rands s) rest v few
+      third = refusal-3 editions sets (auc s) (entry s .args .count) (n s) (lent s) (rands s) rest v few
 
       fourth : (i j : ℕ) → lent s ≡ true → aka.equalPair (rands s) (n s) ≡ aka.equalAt i j → outcome ≡ aka.repeated i j
-      fourth = refusal-4 width sets (auc s) (entry s .args .count) (n s) (lent s) (rands s) rest v few
+      fourth = refusal-4 editions sets (auc s) (entry s .args .count) (n s) (lent s) (rands s) rest v few
 
       none : lent s ≡ true → aka.equalPair (rands s) (n s) ≡ aka.unequal → outcome ≡ rest
-      none = not-refused width sets (auc s) (entry s .args .count) (n s) (lent s) (rands s) rest v few
+      none = not-refused editions sets (auc s) (entry s .args .count) (n s) (lent s) (rands s) rest v few
 
 returns : tie.Need-returns
 returns c = (λ rest. first (c .before) rest (sym (c .before .is-valid .ensures) ∙ not-true _ (c .if1 .taken)), refl)

@@ -15,11 +15,11 @@ use Rattle.batches.proofs.put_at.Tie as tie
 
 -- ---- the stations: RAND taken up, SQN in octets, RAND read, from the last back
 
-abbrev numbered : tie.After-prepare → tie.After-sqn-octets
+abbrev numbered : tie.After-prepare → tie.After-sqn-at
 numbered c = c .before
 
-abbrev read : tie.After-sqn-octets → tie.After-sixteen
-read c = c .before .before .before
+abbrev read : tie.After-sqn-at → tie.After-sixteen
+read c = c .before
 
 abbrev entry : tie.After-sixteen → tie.Start
 entry c = c .before .before .before .before .before .before
@@ -46,13 +46,12 @@ returns c =
     let behind = drop (vectorSize * args .k + vectorSize) (args .batch .now) in
     put .put-vector .ensures keys (prepared .prepare .ensures)
     ∙ ap₂ (λ (x y : Octets). before ++ writeVector (makeVector (sets .under keys) x (args .s .amf) y) ++ behind)
-    (sqn .sqn-octets .ensures) (rand-is (read sqn))
+    (sqn .sqn-at .ensures) (rand-is (read sqn))
 
 pub put-at-spec : {M : Type 1} → statement M
 put-at-spec =
     tie.close
     (tie.spec
     (λ c. search needs) (λ c. search needs) (λ c. search needs) (λ c. search needs) (λ c. search needs)
-    (λ c κs. search needs) (λ c. search needs) (λ c. search needs) (λ c. search needs) (λ c. search needs)
-    (λ c. search needs) (λ c κs. search needs) (λ c κs. search needs) (λ c. search needs) put-vector-requires
+    (λ c κs. search needs) (λ c κs. search needs) (λ c κs. search needs) (λ c. search needs) put-vector-requires
     (λ c. search needs) returns)

@@ -14,13 +14,13 @@ taken desk = record { bench = record { keyed = true; failed = false; desk = desk
 
 returns : tie.Need-returns
 unfolding key
-returns c = sym (rw (sym (c .before .is-known .ensures) ∙ not-true _ (c .if1 .taken)))
+returns c = sym (rw (sym (c .before .admits .ensures) ∙ not-true _ (c .if1 .taken)))
 
 returns-2 : tie.Need-returns-2
 unfolding key
 returns-2 c =
     let test = c .before in
-    ap taken (c .new .ensures) ∙ sym (rw (sym (test .before .is-known .ensures) ∙ not-false _ (test .if1 .left)))
+    ap taken (c .new .ensures) ∙ sym (rw (sym (test .before .admits .ensures) ∙ not-false _ (test .if1 .left)))
 
 pub key-spec : {M : Type 1} → statement M
 key-spec = tie.close (tie.spec (λ c κs. search needs) returns (λ c κs. search needs) returns-2)

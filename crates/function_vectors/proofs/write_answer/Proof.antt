@@ -10,7 +10,7 @@ use lib.ListN.{length}
 use Rattle.octets.specs.Octets.{Octets, zeros}
 use Rattle.fields.specs.Fields.{octetsIn}
 use Rattle.aka.specs.Functions.{Keys}
-use Rattle.functions.specs.Sets.{sets}
+use Rattle.functions.specs.Sets.{isSet, sets}
 use Rattle.functions.specs.Challenge.{keysOf}
 use Rattle.console.proofs.BufferLaws.{appended-fits}
 use Rattle.aka.specs.Layout.{keySize, randSize, sqnSize, amfSize}
@@ -76,7 +76,7 @@ returns-3 c =
     let read = test .before .before .before in
     let start = entry (sized read) in
     let good = form read true (not-false _ (test .if2 .left)) in
-    let is-known = ap (λ (k : Keys). sets .known (k .set)) (sym (keys read good)) ∙ sym (unknown .before .is-known .ensures) in
+    let is-known = ap (λ (k : Keys). isSet (k .set)) (sym (keys read good)) ∙ sym (unknown .before .is-known .ensures) in
     not-known (line read) (sized read .if1 .left) good (is-known ∙ not-true _ (unknown .if3 .taken))
     (appended-fits (start .args .text .now) 0 _ (put .append3 .ensures) (omega (arith, start .pre .1)))
 
@@ -88,7 +88,7 @@ returns-4 c =
     let test = ok .before .before .before in
     let read = test .before .before .before in
     let good = form read true (not-false _ (test .if2 .left)) in
-    let is-known = ap (λ (k : Keys). sets .known (k .set)) (sym (keys read good)) ∙ sym (ok .before .is-known .ensures) in
+    let is-known = ap (λ (k : Keys). isSet (k .set)) (sym (keys read good)) ∙ sym (ok .before .is-known .ensures) in
     let F = sets .under (keysOf (keyed read .read-keys .result .keys)) in
     let challenge = read .read-challenge .result in
     let is = read .read-challenge .ensures .1 in

@@ -1,11 +1,11 @@
--- `is_known` is the family's test. Assumes nothing.
+-- `is_known` is `isSet`. Assumes nothing.
 use mathlib.Core.Path.{refl}
-use Rattle.functions.specs.Sets.{sets}
+use Rattle.functions.specs.Sets.{isSet}
 use Rattle.functions.proofs.is_known.Statement.{statement}
 use Rattle.functions.proofs.is_known.Tie as tie
 
 returns : tie.Need-returns
-unfolding sets
+unfolding isSet
 returns c = refl
 
 pub is-known-spec : {M : Type 1} → statement M

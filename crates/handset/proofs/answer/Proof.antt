@@ -8,7 +8,7 @@ use lib.ListN.{length}
 use Rattle.octets.specs.Octets.{Octets}
 use Rattle.functions.specs.Sets.{sets}
 use Rattle.aka.specs.Layout.{autnSize}
-use Rattle.aka.specs.Sequence.{width}
+use Rattle.aka.specs.Editions.{editions}
 use Rattle.aka.specs.Usim.{Usim, UsimShaped}
 use Rattle.aka.specs.Handset.{Store, partsRight, repeats, answerWith, told}
 use Rattle.aka.proofs.Handset.{parts-known, wrong-length, repeats-it}
@@ -44,7 +44,7 @@ module _ (tested : tie.After-lengths-right) where
   fit = partsRight store rand fresh && eqb (length autn) autnSize
 
   -- the type of the record tells the lengths of its parts
-  shaped : UsimShaped width usim
+  shaped : UsimShaped editions usim
   shaped = usim-shaped (entry .args .usim) _ (entry .good .0)
 
   right : tested .lengths-right .result ≡ partsRight store rand fresh
@@ -61,13 +61,13 @@ returns : tie.Need-returns
 returns c =
     let tested = c .before .before in
     let wrong : fit tested ≡ false = rw (sym (right tested) ∙ not-true _ (c .before .if1 .taken)) refl in
-    (c .without-card .ensures (fresh tested) ∙ sym (ap told (wrong-length width sets _ _ _ _ _ wrong)), shaped tested)
+    (c .without-card .ensures (fresh tested) ∙ sym (ap told (wrong-length editions sets _ _ _ _ _ wrong)), shaped tested)
 
 returns-2 : tie.Need-returns-2
 returns-2 c =
     let tested = c .before .before .before in
     let wrong : fit tested ≡ false = rw (parts-fit (c .before .before), ne-eqb _ _ (c .before .if2 .taken)) refl in
-    (c .without-card2 .ensures (fresh tested) ∙ sym (ap told (wrong-length width sets _ _ _ _ _ wrong)), shaped tested)
+    (c .without-card2 .ensures (fresh tested) ∙ sym (ap told (wrong-length editions sets _ _ _ _ _ wrong)), shaped tested)
 
 repeats-requires : tie.Need-repeats-requires
 repeats-requires c κs = let sizes = parts-known _ _ _ (parts-fit (c .before)) in (omega (arith, sizes .0), sizes .1)
@@ -79,7 +79,7 @@ returns-3 c =
     let tested = compared .before .before .before in
     let same = sym (compared .repeats .ensures) ∙ c .before .if3 .taken in (
       c .without-card3 .ensures (fresh tested)
-          ∙ sym (ap told (repeats-it width sets _ _ _ _ _ (fits (compared .before)) same)),
+          ∙ sym (ap told (repeats-it editions sets _ _ _ _ _ (fits (compared .before)) same)),
       shaped tested,
     )
 
@@ -91,7 +91,7 @@ returns-4 c =
     let asked = c .before .before in
     let compared = asked .before .before .before in
     let other = sym (compared .repeats .ensures) ∙ asked .before .before .if3 .left in
-    (asked .ask .ensures .0 ∙ sym (asks width sets _ _ _ _ _ (fits (compared .before)) other), asked .ask .ensures .1)
+    (asked .ask .ensures .0 ∙ sym (asks editions sets _ _ _ _ _ (fits (compared .before)) other), asked .ask .ensures .1)
 
 pub answer-spec : {M : Type 1} → statement M
 answer-spec =

@@ -5,7 +5,7 @@ use lib.ListN.{length-set}
 use Rattle.octets.proofs.PartByPart.{put-first, put-next}
 use Rattle.aka.specs.Layout.{keySize}
 use Rattle.images.specs.Head.{head}
-use Rattle.images.proofs.Heads.{few-sets}
+use Rattle.images.proofs.Heads.{few}
 use borrow.Author.Needs.{needs}
 use Rattle.images.proofs.put_head.Statement.{statement}
 use Rattle.images.proofs.put_head.Tie as tie
@@ -17,8 +17,11 @@ first c = c .before .before .before .before
 abbrev entry : tie.After-put-key → tie.Start
 entry c = c .before .before .before .before .before .before
 
+mul-image : tie.Need-mul-image
+mul-image c = let small = few _ _ (c .before .before .before .pre .1) in omega (arith, small .edition)
+
 add-image : tie.Need-add-image
-add-image c = omega (arith, few-sets _ (c .before .before .before .before .pre .1))
+add-image c = let small = few _ _ (c .before .before .before .before .pre .1) in omega (arith, small .edition, small .set)
 
 put-key-requires : tie.Need-put-key-requires
 put-key-requires c κs = simp length-set (omega arith)
@@ -46,4 +49,4 @@ pub put-head-spec : {M : Type 1} → statement M
 put-head-spec =
     tie.close
     (tie.spec
-    (λ c. search needs) add-image (λ c. search needs) put-key-requires put-key-requires-2 same-length returns)
+    mul-image add-image (λ c. search needs) put-key-requires put-key-requires-2 same-length returns)

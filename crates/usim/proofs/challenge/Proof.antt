@@ -6,7 +6,7 @@ use Rattle.octets.specs.Octets.{Octets}
 use Rattle.functions.specs.Sets.{sets}
 use Rattle.aka.specs.Usim.{Usim, UsimShaped, refused, validUsim, lengthsRight, challenge as challengeOf}
 use Rattle.aka.proofs.Verdicts.{refused-1, refused-3, judged, lengths-right}
-use Rattle.aka.specs.Sequence.{width}
+use Rattle.aka.specs.Editions.{editions}
 use Rattle.usim_record.specs.Views.{usimOf}
 use Rattle.usim_record.proofs.Shapes.{usim-shaped}
 use Rattle.usim.proofs.Answered.{answered, refusal}
@@ -29,23 +29,23 @@ module _ (tested : tie.After-is-valid) where
   autn = entry tested .args .autn .now
 
   -- the type of the record tells the lengths of its parts
-  shaped : UsimShaped width usim
+  shaped : UsimShaped editions usim
   shaped = usim-shaped (entry tested .args .usim) _ (entry tested .good .0)
 
-valid : (c : tie.Else1) → validUsim width sets (usim (c .before)) ≡ true
+valid : (c : tie.Else1) → validUsim editions sets (usim (c .before)) ≡ true
 valid c = sym (c .before .is-valid .ensures) ∙ not-false _ (c .if1 .left)
 
 returns : tie.Need-returns
 returns c =
     let tested = c .before .before in
-    let bad : validUsim width sets (usim tested) ≡ false = sym (tested .is-valid .ensures) ∙ not-true _ (c .before .if1 .taken) in
-    let answer = refusal (usim tested) (rand tested) (autn tested) _ 1 (refused-1 width sets _ _ _ bad) (c .unchanged .ensures) in
+    let bad : validUsim editions sets (usim tested) ≡ false = sym (tested .is-valid .ensures) ∙ not-true _ (c .before .if1 .taken) in
+    let answer = refusal (usim tested) (rand tested) (autn tested) _ 1 (refused-1 editions sets _ _ _ bad) (c .unchanged .ensures) in
     (answer .0, (answer .1, shaped tested))
 
 -- refusal 3 of a valid record
 another-length : (c : tie.Else1) → lengthsRight (rand (c .before)) (autn (c .before)) ≡ false
-    → challengeOf width sets (usim (c .before)) (rand (c .before)) (autn (c .before)) .verdict ≡ refused 3
-another-length c bad = refused-3 width sets (usim (c .before)) (rand (c .before)) (autn (c .before)) (valid c) bad
+    → challengeOf editions sets (usim (c .before)) (rand (c .before)) (autn (c .before)) .verdict ≡ refused 3
+another-length c bad = refused-3 editions sets (usim (c .before)) (rand (c .before)) (autn (c .before)) (valid c) bad
 
 returns-2 : tie.Need-returns-2
 unfolding lengthsRight
@@ -84,7 +84,7 @@ returns-4 c =
     let tested = known .before in
     let good : lengthsRight (rand tested) (autn tested) ≡ true = lengths-right _ _ (long .before .if2 .left) (long .if3 .left) in
     let answer =
-    answered (usim tested) (rand tested) (autn tested) _ _ (judged width sets _ _ _ (valid known) good)
+    answered (usim tested) (rand tested) (autn tested) _ _ (judged editions sets _ _ _ (valid known) good)
     (rw (lent .before .sixteen .ensures, lent .sixteen2 .ensures) at (c .authenticate .ensures)) in
     (answer .0, (answer .1, shaped tested))
 

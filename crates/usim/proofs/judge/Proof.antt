@@ -8,7 +8,7 @@ use Rattle.functions.specs.Sets.{sets}
 use Rattle.aka.specs.Functions.{Keys}
 use Rattle.aka.specs.Layout.{readAutn}
 use Rattle.aka.specs.Usim.{macFailure, sqnIn, macRight, judgement, answerWith}
-use Rattle.aka.specs.Sequence.{width}
+use Rattle.aka.specs.Editions.{editions}
 use Rattle.usim_record.specs.declared.Verdict.the-variants.{Mac}
 use Rattle.usim_record.specs.Views.{usimOf}
 use Rattle.functions.proofs.Outputs.{gives}
@@ -50,7 +50,7 @@ returns c = λ rand s.
     let tested = wrong .before in
     let usim = usimOf (entry tested .args .usim) in
     let different = mac-is tested rand s (not-true _ (wrong .if1 .taken)) in
-    let mac : judgement width sets usim rand (autn tested rand) ≡ macFailure = rw different refl in
+    let mac : judgement editions sets usim rand (autn tested rand) ≡ macFailure = rw different refl in
     rw mac (unchanged-for usim rand (autn tested rand) _ Mac _ refl refl refl (c .unchanged .ensures))
 
 returns-2 : tie.Need-returns-2

@@ -1,12 +1,14 @@
 -- `judge_sqn` is the judgement once MAC is right. Assumes nothing.
 use mathlib.Core.Bool.{Bool, true, false, not, cond}
 use mathlib.Core.Path.{_≡_, refl, ap, _∙_}
+use native.Mathlib.Nat.{mod-lt}
+use native.Mathlib.Omega.{arith}
 use borrow.Author.Tests.{not-true, not-false}
 use Rattle.octets.specs.Octets.{Octets}
 use Rattle.functions.specs.Challenge.{keysOf}
 use Rattle.functions.specs.Sets.{sets}
 use Rattle.aka.specs.Usim.{accepted, syncFailure, unchanged, judgement, answerWith}
-use Rattle.aka.specs.Sequence.{width}
+use Rattle.aka.specs.Editions.{editions}
 use Rattle.usim_record.specs.declared.Verdict.the-variants.{Sync}
 use Rattle.usim_record.specs.Views.{usimOf}
 use Rattle.usim.specs.Judging.{MacVerified}
@@ -15,8 +17,11 @@ use borrow.Author.Needs.{needs}
 use Rattle.usim.proofs.judge_sqn.Statement.{statement}
 use Rattle.usim.proofs.judge_sqn.Tie as tie
 
+abbrev row : tie.After-is-fresh → tie.After-row
+row c = c .before .before .before
+
 abbrev entry : tie.After-is-fresh → tie.Start
-entry c = c .before .before
+entry c = row c .before .before
 
 -- with a right MAC the test of freshness is the judgement
 module _ (tested : tie.After-is-fresh) (rand autn : Octets) where
@@ -30,9 +35,14 @@ module _ (tested : tie.After-is-fresh) (rand autn : Octets) where
 
   judged : Verified
       → (b : Bool) → tested .is-fresh .result ≡ b
-      → judgement width sets (usimOf (start .args .usim)) rand autn ≡ cond (not b) syncFailure accepted
+      → judgement editions sets (usimOf (start .args .usim)) rand autn ≡ cond (not b) syncFailure accepted
   unfolding judgement
-  judged v b e = rw (v .mac, ← v .sqn, ← tested .is-fresh .ensures, e) refl
+  judged v b e = rw (v .mac, ← v .sqn, ← row tested .row .ensures .indices .number, ← tested .is-fresh .ensures, e) refl
+
+is-fresh-requires : tie.Need-is-fresh-requires
+is-fresh-requires c κs =
+    let indices = c .before .before .row .ensures .indices in
+    omega (arith, mod-lt (c .before .before .before .before .args .sqn) (indices .some), indices .inside)
 
 returns : tie.Need-returns
 unfolding answerWith
@@ -56,4 +66,5 @@ pub judge-sqn-spec : {M : Type 1} → statement M
 judge-sqn-spec =
     tie.close
     (tie.spec
-    (λ c κs. search needs) (λ c κs. search needs) (λ c κs. search needs) returns (λ c κs. search needs) returns-2)
+    (λ c κs. search needs) (λ c. search needs) (λ c. search needs) is-fresh-requires (λ c κs. search needs) (λ c κs. search needs) returns
+    (λ c κs. search needs) returns-2)

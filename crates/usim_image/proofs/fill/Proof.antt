@@ -8,7 +8,8 @@ use lib.Seq.{take-at}
 use Rattle.octets.specs.Octets.{Octets, number, encode}
 use Rattle.octets.proofs.PartByPart.{filled}
 use Rattle.functions.specs.Sets.{sets}
-use Rattle.aka.specs.Sequence.{width, seqBits}
+use Rattle.aka.specs.Sequence.{widthOf, indices, seqBits}
+use Rattle.aka.specs.Editions.{editions}
 use Rattle.aka.proofs.Places.{within-below}
 use Rattle.aka.proofs.Verdicts.{valid-parts}
 use Rattle.usim_record.specs.Views.{usimOf}
@@ -27,13 +28,13 @@ entry c = c .before .before .before .before .before
 put-head-requires : tie.Need-put-head-requires
 put-head-requires c κs =
     let start = c .before .before .before .before in
-    (omega (arith, start .pre .1), valid-parts width sets _ (start .pre .0) .0)
+    (omega (arith, start .pre .1), valid-parts editions sets _ (start .pre .0) .0)
 
 put-places-requires : tie.Need-put-places-requires
 put-places-requires c κs =
     let done = c .before .before .before in
     let start = entry done in
-    (omega (arith, done .put-head .kept .0, start .pre .1), within-below (seqBits width) _ .0 (valid-parts width sets _ (start .pre .0) .1))
+    (omega (arith, done .put-head .kept .0, start .pre .1), within-below (seqBits (widthOf editions (start .args .usim .edition))) _ .0 (valid-parts editions sets _ (start .pre .0) .1))
 
 same-length : tie.Need-same-length
 same-length c =
@@ -47,9 +48,10 @@ returns c =
     let done = head-put last in
     let start = entry done in
     let usim = usimOf (start .args .usim) in
-    let keys = head (usim .keys) in
+    let keys = head (usim .edition) (usim .keys) in
+    let w = widthOf editions (usim .edition) in
     let d = start .args .image .now in
-    let places = encode (placesSize width) (number (2 ^ seqBits width) (usim .places)) in
+    let places = encode (placesSize w) (number (2 ^ seqBits w) (take (indices w) (usim .places))) in
     let f = filled d keys headSize (done .put-head .ensures) (done .put-head .kept .0) (omega arith) in
     last .put-places .ensures
     ∙ ap (λ (l : Octets). l ++ places) (ap (take headSize) (f .is) ∙ take-at keys (drop headSize d) headSize (f .size))

@@ -1,4 +1,4 @@
--- `is_valid` is `validUsim`. Assumes nothing.
+-- `is_valid` is `validUsim`: its tests one after the other. Assumes nothing.
 use mathlib.Core.Bool.{true, false}
 use mathlib.Core.Path.{_≡_, refl}
 use borrow.Author.Needs.{needs}
@@ -10,14 +10,36 @@ use Rattle.usim_record.proofs.is_valid.Tie as tie
 returns : tie.Need-returns
 unfolding validUsim
 returns c =
-    let unknown : c .before .is-known .result ≡ false = not-true _ (c .if1 .taken) in
-    rw (← c .before .is-known .ensures, unknown) refl
+    let other : c .before .admits .result ≡ false = not-true _ (c .if1 .taken) in
+    rw (← c .before .admits .ensures, other) refl
 
 returns-2 : tie.Need-returns-2
 unfolding validUsim
 returns-2 c =
-    let known : c .before .before .is-known .result ≡ true = not-false _ (c .before .if1 .left) in
-    rw (← c .before .before .is-known .ensures, known) (c .within .ensures)
+    let after = c .before in
+    let row = after .before in
+    let admitted : row .before .before .admits .result ≡ true = not-false _ (row .before .if1 .left) in
+    let other : after .within .result ≡ false = not-true _ (c .if2 .taken) in
+    rw (← row .before .before .admits .ensures, admitted, ← row .row .ensures .limit, ← after .within .ensures, other) refl
+
+returns-3 : tie.Need-returns-3
+unfolding validUsim
+returns-3 c =
+    let after = c .before .before in
+    let row = after .before in
+    let admitted : row .before .before .admits .result ≡ true = not-false _ (row .before .if1 .left) in
+    let within : after .within .result ≡ true = not-false _ (c .before .if2 .left) in
+    rw (
+      ← row .before .before .admits .ensures,
+      admitted,
+      ← row .row .ensures .limit,
+      ← after .within .ensures,
+      within,
+      ← row .row .ensures .indices .number,
+    ) (c .zero-from .ensures)
 
 pub is-valid-spec : {M : Type 1} → statement M
-is-valid-spec = tie.close (tie.spec (λ c κs. search needs) returns (λ c κs. search needs) returns-2)
+is-valid-spec =
+    tie.close
+    (tie.spec
+    (λ c κs. search needs) returns (λ c κs. search needs) (λ c κs. search needs) returns-2 (λ c κs. search needs) returns-3)

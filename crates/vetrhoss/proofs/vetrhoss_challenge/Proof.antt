@@ -1,11 +1,15 @@
 -- `vetrhoss_challenge` is `challengeCall`. Assumes nothing.
 use mathlib.Core.Bool.{true}
-use mathlib.Core.Path.{_≡_, refl, sym, _∙_}
+use Prim.Native.Nat.{ℕ}
+use mathlib.Core.Path.{_≡_, refl, sym, ap, _∙_}
 use borrow.Author.Tests.{eq-eqb, ne-eqb, not-true, not-false}
+use Rattle.aka.specs.Sequence.{widthOf}
+use Rattle.aka.specs.Editions.{editions}
 use Rattle.usim_record.specs.Views.{sqnGiven, answerOf}
+use Rattle.usim_image.specs.Image.{imageSize}
 use Rattle.interface_answers.specs.Answers.{answerSized}
 use Rattle.vetrhoss.specs.Interface.{Returned, UsimOctets, usimReturns, challengeCall}
-use Rattle.vetrhoss.proofs.UsimAnswers.{read-valid, refusal, given, next-valid, handed-on}
+use Rattle.vetrhoss.proofs.UsimAnswers.{read-valid, refusal, given, same-edition, next-valid, handed-on}
 use borrow.Author.Needs.{needs}
 use Rattle.vetrhoss.proofs.vetrhoss_challenge.Statement.{statement}
 use Rattle.vetrhoss.proofs.vetrhoss_challenge.Tie as tie
@@ -90,8 +94,10 @@ hand-on-requires c κs =
     let ask = answered (filled c .before) .before in
     let image = taken (measured ask) in
     let valid = read-valid _ _ (is-read (image .before) .read .ensures) (image .if1 .left) in
-    let answer = ask .challenge .ensures in
-    ((next-valid _ _ _ (valid .1) _ (answer .0) (answer .1 .0 .0) (answer .1 .0 .1), answer .1 .0 .1), valid .0)
+    let answer = ask .challenge .ensures in (
+      (next-valid _ _ _ (valid .1) _ (answer .0) (answer .1 .0 .0) (answer .1 .0 .1), answer .1 .0 .1),
+      valid .0 ∙ ap (λ (e : ℕ). imageSize (widthOf editions e)) (sym (same-edition _ _ _ _ (answer .0))),
+    )
 
 returns-4 : tie.Need-returns-4
 returns-4 c =

@@ -4,7 +4,7 @@ use borrow.Author.Tests.{eq-eqb, ne-eqb}
 use Rattle.functions.specs.Sets.{sets}
 use Rattle.functions.proofs.Protocol.{auc-holds}
 use Rattle.aka.specs.Auc.{AucAnswer, validAuc}
-use Rattle.aka.specs.Sequence.{width}
+use Rattle.aka.specs.Editions.{editions}
 use Rattle.vetrhoss.specs.Interface.{onImage}
 use Rattle.vetrhoss.proofs.AucAnswers.{read-valid, handed-on}
 use borrow.Author.Needs.{needs}
@@ -34,7 +34,7 @@ hand-on-requires c κs =
     let image = taken ask in
     let valid = read-valid _ _ (is-read (image .before) .read .ensures) (image .if1 .left) in
     let stays = auc-holds .orders _ _ _ _ .stays-valid (valid .1) in
-    (ap (λ (a : AucAnswer). validAuc width sets (a .auc)) (ask .order .ensures) ∙ stays, valid .0)
+    (ap (λ (a : AucAnswer). validAuc editions sets (a .auc)) (ask .order .ensures) ∙ stays, valid .0)
 
 returns-2 : tie.Need-returns-2
 unfolding onImage

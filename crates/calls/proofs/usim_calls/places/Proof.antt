@@ -2,16 +2,16 @@
 use mathlib.Core.Path.{_≡_}
 use Prim.Native.Nat.{_-_, _≤_}
 use lib.ListN.{length}
-use Rattle.aka.specs.Sequence.{indices, width}
+use Rattle.aka.specs.Editions.{cardPlaces}
 use borrow.Author.Needs.{needs}
 use Rattle.calls.proofs.usim_calls.places.Statement.{statement}
 use Rattle.calls.proofs.usim_calls.places.Tie as tie
 
 abbrev Inv-loop : tie.InvT-loop
-Inv-loop c places₀ i₀ places i = (i ≤ indices width) × (length places ≡ indices width)
+Inv-loop c places₀ i₀ places i = (i ≤ cardPlaces) × (length places ≡ cardPlaces)
 
 abbrev μ-loop : tie.MeasureT-loop
-μ-loop c places₀ i₀ places i = indices width - i
+μ-loop c places₀ i₀ places i = cardPlaces - i
 
 pub places-spec : {M : Type 1} → statement M
 places-spec =

@@ -1,7 +1,8 @@
 -- `write_next` writes the image of a valid record. Assumes nothing.
 use mathlib.Core.Path.{refl, ap, _∙_}
 use borrow.Author.Tests.{eq-eqb}
-use Rattle.aka.specs.Sequence.{width}
+use Rattle.aka.specs.Sequence.{widthOf}
+use Rattle.aka.specs.Editions.{editions}
 use Rattle.images.specs.Images.{Written}
 use Rattle.usim_image.specs.Image.{imageSize, writeAnswer}
 use borrow.Author.Needs.{needs}
@@ -18,7 +19,8 @@ returns : tie.Need-returns
 unfolding writeAnswer
 returns c =
     let pre = entry (written c) .pre in
-    (refl, ap (λ (w : Written). w .image) (written c .write .ensures) ∙ rw (pre .0, eq-eqb _ (imageSize width) (pre .1)) refl)
+    let w = widthOf editions (entry (written c) .args .usim .edition) in
+    (refl, ap (λ (w : Written). w .image) (written c .write .ensures) ∙ rw (pre .0, eq-eqb _ (imageSize w) (pre .1)) refl)
 
 pub write-next-spec : {M : Type 1} → statement M
 write-next-spec = tie.close (tie.spec (λ c κs. search needs) (λ c. search needs) returns)

@@ -6,17 +6,17 @@ use native.Mathlib.Omega.{arith}
 use lib.ListN.{drop, drop-of-length-le}
 use Rattle.octets.proofs.Parts.{drop-next}
 use mathlib.Core.Logic.{⊎-elim}
-use Rattle.aka.specs.Sequence.{indices, width}
+use Rattle.aka.specs.Editions.{cardPlaces}
 use Rattle.aka.specs.Usim.{highest}
 use borrow.Author.Needs.{needs}
 use Rattle.usim_record.proofs.places.highest.Statement.{statement}
 use Rattle.usim_record.proofs.places.highest.Tie as tie
 
 abbrev Inv-loop : tie.InvT-loop
-Inv-loop places most₀ i₀ most i = (i ≤ indices width) × (highest places ≡ max most (highest (drop i places)))
+Inv-loop places most₀ i₀ most i = (i ≤ cardPlaces) × (highest places ≡ max most (highest (drop i places)))
 
 abbrev μ-loop : tie.MeasureT-loop
-μ-loop places most₀ i₀ most i = indices width - i
+μ-loop places most₀ i₀ most i = cardPlaces - i
 
 -- from the loop's head: what is lent, and what the invariant says where the places from i on are `rest`
 abbrev lent : tie.At-loop Inv-loop μ-loop → List ℕ

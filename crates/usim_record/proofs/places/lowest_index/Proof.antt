@@ -5,7 +5,7 @@ use mathlib.Core.Path.{_≡_, sym, _∙_}
 use native.Mathlib.Omega.{arith}
 use borrow.Author.Tests.{eq-eqb, ne-eqb}
 use lib.ListN.{drop, drop-of-length-le}
-use Rattle.aka.specs.Sequence.{indices, width}
+use Rattle.aka.specs.Editions.{cardPlaces}
 use Rattle.aka.specs.Usim.{lowestIndex}
 use Rattle.octets.proofs.Parts.{drop-next}
 use borrow.Author.Needs.{needs}
@@ -13,10 +13,10 @@ use Rattle.usim_record.proofs.places.lowest_index.Statement.{statement}
 use Rattle.usim_record.proofs.places.lowest_index.Tie as tie
 
 abbrev Inv-loop : tie.InvT-loop
-Inv-loop seq places i₀ i = (i ≤ indices width) × (lowestIndex seq places ≡ i + lowestIndex seq (drop i places))
+Inv-loop seq places i₀ i = (i ≤ cardPlaces) × (lowestIndex seq places ≡ i + lowestIndex seq (drop i places))
 
 abbrev μ-loop : tie.MeasureT-loop
-μ-loop seq places i₀ i = indices width - i
+μ-loop seq places i₀ i = cardPlaces - i
 
 -- from the loop's head: what is lent
 abbrev lent : tie.At-loop Inv-loop μ-loop → List ℕ

@@ -6,17 +6,17 @@ use native.Mathlib.Omega.{arith}
 use borrow.Author.Needs.{needs}
 use borrow.Author.Tests.{le-leb, lt-leb}
 use lib.ListN.{drop, drop-of-length-le}
-use Rattle.aka.specs.Sequence.{indices, limit, width}
+use Rattle.aka.specs.Editions.{cardPlaces}
 use Rattle.aka.specs.Usim.{allWithin}
 use Rattle.octets.proofs.Parts.{drop-next}
 use Rattle.usim_record.proofs.places.within.Statement.{statement}
 use Rattle.usim_record.proofs.places.within.Tie as tie
 
 abbrev Inv-loop : tie.InvT-loop
-Inv-loop places i₀ i = (i ≤ indices width) × (allWithin (limit width) places ≡ allWithin (limit width) (drop i places))
+Inv-loop limit places i₀ i = (i ≤ cardPlaces) × (allWithin limit places ≡ allWithin limit (drop i places))
 
 abbrev μ-loop : tie.MeasureT-loop
-μ-loop places i₀ i = indices width - i
+μ-loop limit places i₀ i = cardPlaces - i
 
 -- from the loop's head: what is lent
 abbrev lent : tie.At-loop Inv-loop μ-loop → List ℕ
@@ -26,13 +26,13 @@ returns : tie.Need-returns Inv-loop μ-loop
 unfolding allWithin
 returns c =
     let head = c .before .before in
-    sym (head .loop .inv .1 ∙ rw (drop-next (lent head) (head .loop .i) (omega arith), lt-leb _ (limit width) (c .if1 .taken)))
+    sym (head .loop .inv .1 ∙ rw (drop-next (lent head) (head .loop .i) (omega arith), lt-leb _ _ (c .if1 .taken)))
 
 loop-again : tie.Need-loop-again Inv-loop μ-loop
 unfolding allWithin
 loop-again c =
     let head = c .before .before in
-    (omega arith, head .loop .inv .1 ∙ rw (drop-next (lent head) (head .loop .i) (omega arith), le-leb _ (limit width) (c .if1 .left)))
+    (omega arith, head .loop .inv .1 ∙ rw (drop-next (lent head) (head .loop .i) (omega arith), le-leb _ _ (c .if1 .left)))
 
 returns-2 : tie.Need-returns-2 Inv-loop μ-loop
 unfolding allWithin
