@@ -201,7 +201,8 @@ module _ (scheme : Scheme) (family : Family) (auc : Auc) (count n : ℕ) (rands 
 
     pub stays-with : (o : Outcome) → (refusalOf (answer o .outcome) ≡ 0 → ⊥) → Stays scheme family auc count n rands buffer (answer o)
     stays-with o h =
-        let is = answer-refused scheme family auc from rands n buffer o (ne-eqb (refusalOf o) 0 (λ e. h (ap refusalOf (outcome-is o) ∙ e))) in
+        let is = answer-refused scheme family auc from rands n buffer o
+        (ne-eqb (refusalOf o) 0 (λ e. h (ap refusalOf (outcome-is o) ∙ e))) in
         record {
           none = ap (λ (a : AucAnswer). a .n) is;
           same-auc = ap (λ (a : AucAnswer). a .auc) is;
@@ -221,6 +222,7 @@ module _ (scheme : Scheme) (family : Family) (auc : Auc) (count n : ℕ) (rands 
     valid-with v o h = go (eqb (refusalOf o) 0) refl
       where
         go : (b : Bool) → eqb (refusalOf o) 0 ≡ b
-            → validAuc scheme family (cond b (givenWith scheme family auc from rands n o) (refusedWith scheme family auc buffer o) .auc) ≡ true
+            → validAuc scheme family (cond b (givenWith scheme family auc from rands n o) (refusedWith scheme family auc buffer o) .auc)
+            ≡ true
         go true e = after-valid v (h (eqb-true (refusalOf o) 0 e))
         go false e = v

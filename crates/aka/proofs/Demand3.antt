@@ -150,7 +150,8 @@ module _ (scheme : Scheme) (fits : Fitting scheme) (family : Family) (lawful : L
   counted : (calls : List Call) → Goal (s .usim) calls
   counted calls =
       all-calls scheme family (s .usim) L batch N (s .auc .amf) (seqAt st) (indAt m (s .auc)) (randAt (s .rands)) rising
-      (shapes .usim .places) (valid-parts scheme family (s .usim) (p .usim-valid) .1) (valid-parts scheme family (s .usim) (p .usim-valid) .2) calls
+      (shapes .usim .places) (valid-parts scheme family (s .usim) (p .usim-valid) .1)
+      (valid-parts scheme family (s .usim) (p .usim-valid) .2) calls
 
   kept-or-reset : (b : Bool) → (cond b kept reset ≡ kept) ⊎ (cond b kept reset ≡ reset)
   kept-or-reset true = inl refl

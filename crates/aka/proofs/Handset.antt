@@ -177,7 +177,8 @@ module _ (scheme : Scheme) (family : Family) (usim : Usim) (store : Store) (rand
 
     abbrev whole-order : Outcome → Type 0
     whole-order o =
-        inOrder (told (answerWith scheme family usim store rand autn fresh o)) store rand ≡ answerWith scheme family usim store rand autn fresh o
+        inOrder (told (answerWith scheme family usim store rand autn fresh o)) store rand
+        ≡ answerWith scheme family usim store rand autn fresh o
 
     with-order : (o : Outcome) → outcome ≡ o → whole-order o
     unfolding answerWith source keep

@@ -60,7 +60,8 @@ module _ (scheme : Scheme) (family : Family) (auc : Auc) (count₀ : ℕ) (rands
   unfolding order answerWith
   order-generates s e =
       let is = sym order-is ∙ e in
-      subst (Generates scheme family auc count₀ N rands buffer (auc .seqhe)) (sym (ap (answerWith scheme family auc (auc .seqhe) rands N buffer) is))
+      subst (Generates scheme family auc count₀ N rands buffer (auc .seqhe))
+      (sym (ap (answerWith scheme family auc (auc .seqhe) rands N buffer) is))
       (generates scheme family auc count₀ N rands buffer s (auc .seqhe) (order-room (ap refusalOf is)) given)
 
   true-sized : lent ≡ true → Sizes
@@ -80,7 +81,8 @@ module _ (scheme : Scheme) (family : Family) (auc : Auc) (count₀ : ℕ) (rands
     refusal6 = past-six;
     number6 = λ a l past. ap refusalOf (past-six a l past);
     not-refused = λ a l room. ap (λ (x : AucAnswer). x .outcome)
-        (order-given scheme family auc count₀ rands buffer (a .valid) (a .count-small) (l .rands-size) (l .buffer-size) (a .unequal-rands) room);
+        (order-given scheme family auc count₀ rands buffer (a .valid) (a .count-small) (l .rands-size) (l .buffer-size) (a .unequal-rands)
+        room);
     generates = order-generates;
     stays = stays-with scheme family auc count₀ N rands buffer (auc .seqhe) outcome₁;
     stays-valid = λ v. valid-with scheme family auc count₀ N rands buffer (auc .seqhe) v outcome₁ order-room;

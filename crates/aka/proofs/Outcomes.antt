@@ -89,7 +89,8 @@ module _ (scheme : Scheme) (family : Family) (auc : Auc) where
   unfolding validAuc
   valid-iff = (
     λ e.
-        let all = and-eq-true-iff (family .admits (auc .edition) (auc .keys) && leb (auc .seqhe) (limit w)) (ltb (auc .next) (indices w)) .0 e in
+        let all = and-eq-true-iff (family .admits (auc .edition) (auc .keys) && leb (auc .seqhe) (limit w))
+        (ltb (auc .next) (indices w)) .0 e in
         let two = and-eq-true-iff (family .admits (auc .edition) (auc .keys)) (leb (auc .seqhe) (limit w)) .0 (all .0) in
         (two .0, leb-true (auc .seqhe) (limit w) (two .1), ltb-true (auc .next) (indices w) (all .1)),
     λ h. rw (h .0, le-leb (auc .seqhe) (limit w) (h .1), lt-ltb (auc .next) (indices w) (h .2)),
@@ -190,7 +191,8 @@ module _ (scheme : Scheme) (family : Family) (auc : Auc) where
           not-refused count N (lentFor N (length rands) (length buffer)) rands six valid small named pair
 
       -- a batch is given
-      pub order-given : auc .seqhe + N ≤ limit w → order scheme family auc count rands buffer ≡ givenWith scheme family auc (auc .seqhe) rands N given
+      pub order-given : auc .seqhe + N ≤ limit w
+          → order scheme family auc count rands buffer ≡ givenWith scheme family auc (auc .seqhe) rands N given
       unfolding order answerWith
       order-given room = rw (order-outcome, not-past (auc .seqhe) N given room)
 
@@ -221,4 +223,5 @@ module _ (scheme : Scheme) (family : Family) (auc : Auc) where
 
       pub resync-given : resync scheme family auc count rands buffer rand auts ≡ givenWith scheme family auc (from rand auts n) rands n told
       unfolding resync
-      resync-given = rw resync-outcome (answer-given scheme family auc (from rand auts n) rands n buffer told (told-batch (range rand auts n)))
+      resync-given =
+          rw resync-outcome (answer-given scheme family auc (from rand auts n) rands n buffer told (told-batch (range rand auts n)))

@@ -64,7 +64,8 @@ module _ (scheme : Scheme) (family : Family) (c : Challenge) (store : Store) whe
       record {
         again = λ n shown e.
             let kept = kept-repeats shown e in
-            known.repeats-it scheme family (c .usim) store (c .rand) (c .autn) (c .fresh) (fits store (c .rand) (c .autn) (c .fresh) n) (kept .0)
+            known.repeats-it scheme family (c .usim) store (c .rand) (c .autn) (c .fresh) (fits store (c .rand) (c .autn) (c .fresh) n)
+            (kept .0)
             ∙ ap (λ (s : Octets). repetition s c store) (kept .1);
         other = λ n h. laws .other n (not-kept h);
         wrong = laws .refusal3;
@@ -119,7 +120,8 @@ module _ (scheme : Scheme) (family : Family) (lawful : Lawful family) where
   step-kept store (challenging c) shaped = kept-after scheme family c store lawful shaped
   step-kept store clearing shaped = cleared-kept store
 
-  alone-repeats : (store : Store) (calls : List Call) → Each CardShaped calls → Repeats scheme family (heldIn store) (alone scheme family store calls)
+  alone-repeats : (store : Store) (calls : List Call) → Each CardShaped calls
+      → Repeats scheme family (heldIn store) (alone scheme family store calls)
   unfolding alone Repeats
   alone-repeats store [] shaped = tt
   alone-repeats store (call ∷ rest) shaped =
@@ -166,7 +168,8 @@ module _ (scheme : Scheme) (family : Family) (lawful : Lawful family) where
 
 pub repeated-challenge : (scheme : Scheme) (family : Family) → RepeatedChallenge scheme family
 repeated-challenge scheme family lawful phone calls shaped = record {
-  each = λ d. subst (λ (l : List Handled). Repeats scheme family (heldIn (storeIn d phone)) l) (sym (apart scheme family lawful d phone calls))
+  each = λ d. subst (λ (l : List Handled). Repeats scheme family (heldIn (storeIn d phone)) l)
+      (sym (apart scheme family lawful d phone calls))
       (alone-repeats scheme family lawful (storeIn d phone) (only d calls) (only-shaped scheme family lawful d calls shaped));
   apart = λ d. apart scheme family lawful d phone calls;
 }
@@ -242,7 +245,8 @@ module _ (scheme : Scheme) (family : Family) where
       → a .refusal ≡ 0 → Each NotAccepted between → b .outcome ≡ repeated → ⊥
   unfolding Repeats
   nothing kept d store later a b between rest r done new e =
-      let behind = subst (λ (n : ℕ). Repeats scheme family (cond (eqb n 0) none kept) (between ++ (answered d later b ∷ rest))) done (r .1) in
+      let behind = subst (λ (n : ℕ). Repeats scheme family (cond (eqb n 0) none kept) (between ++ (answered d later b ∷ rest))) done
+      (r .1) in
       let here = past-all none between (answered d later b ∷ rest) (each-none between new) behind in
       unrepeated d later b (here .0) e
 

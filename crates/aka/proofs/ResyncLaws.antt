@@ -95,9 +95,12 @@ module _ (scheme : Scheme) (family : Family) (auc : Auc) (count₀ : ℕ) (rands
 
   -- behind refusals 1 to 4
   module _ (a : Asked) (l : Sizes) where
-    behind-four : resynced .outcome ≡ cond (not range && not right) (refused 5) (unlessPast scheme family auc from N (cond range kept reset))
+    behind-four : resynced .outcome
+        ≡ cond (not range && not right) (refused 5) (unlessPast scheme family auc from N (cond range kept reset))
     unfolding resyncOutcome autsOutcome
-    behind-four = resync-is ∙ not-refused scheme family auc count₀ N lent rands _ (a .valid) (a .count-small) (sized-true l) (a .unequal-rands)
+    behind-four =
+        resync-is
+        ∙ not-refused scheme family auc count₀ N lent rands _ (a .valid) (a .count-small) (sized-true l) (a .unequal-rands)
 
     wrong-five : range ≡ false → right ≡ false → resynced .outcome ≡ refused 5
     wrong-five e wrong = behind-four ∙ rw (e, wrong)
@@ -139,7 +142,8 @@ module _ (scheme : Scheme) (family : Family) (auc : Auc) (count₀ : ℕ) (rands
       let is = sym resync-is ∙ e in
       let room = given-by-range (ap refusalOf is ∙ batch) .1 in
       let there = ap₂ (λ (x : ℕ) (o : Outcome). answerWith scheme family auc x rands N buffer o) at is in
-      subst (Generates scheme family auc count₀ N rands buffer start) (sym (there ∙ answer-given scheme family auc start rands N buffer o batch))
+      subst (Generates scheme family auc count₀ N rands buffer start)
+      (sym (there ∙ answer-given scheme family auc start rands N buffer o batch))
       (generates scheme family auc count₀ N rands buffer s start (rw at at room) o)
 
   kept-generates : Proper → resynced .outcome ≡ kept → Batch (auc .seqhe)

@@ -14,13 +14,13 @@ use Rattle.aka.specs.Layout.{allZero, Autn, sqnSize, macSize, writeAutn,
 use Rattle.aka.specs.Functions.{Functions, Family, Lengths, Lawful, dummyAmf}
 use Rattle.aka.specs.Sequence.{indices, limit, sqnOf}
 use Rattle.aka.specs.Editions.{editions, rowOf}
-use Rattle.aka.specs.Usim.{Usim, UsimShaped, UsimAnswer, accepted, macFailure, syncFailure, highest, lowestIndex, allWithin, validUsim, fresh}
-use Rattle.aka.specs.Usim.{macRight, makeAuts, sqnMs}
-use Rattle.aka.specs.Auc.{Auc, AucAnswer, given, kept, reset, refused, validAuc, inRange, keptOrReset, seqMsIn, makeVector, seqAt, indAt}
-use Rattle.aka.specs.Auc.{afterBatch, batchFrom}
+use Rattle.aka.specs.Usim.{Usim, UsimShaped, UsimAnswer, accepted, macFailure, syncFailure, highest, lowestIndex, allWithin}
+use Rattle.aka.specs.Usim.{validUsim, fresh, macRight, makeAuts, sqnMs}
+use Rattle.aka.specs.Auc.{Auc, AucAnswer, given, kept, reset, refused, validAuc, inRange, keptOrReset, seqMsIn, makeVector}
+use Rattle.aka.specs.Auc.{seqAt, indAt, afterBatch, batchFrom}
 use Rattle.aka.specs.Demand3.{vectorSeq}
-use Rattle.aka.specs.Table.{Sample, Proper, Table, WorkedTable, edition, width, five, new, used, usimWith, sqnWith, asked, askedWith, aucWith}
-use Rattle.aka.specs.Table.{ordered, resynced, firstSeq}
+use Rattle.aka.specs.Table.{Sample, Proper, Table, WorkedTable, edition, width, five, new, used, usimWith, sqnWith, asked}
+use Rattle.aka.specs.Table.{askedWith, aucWith, ordered, resynced, firstSeq}
 use Rattle.octets.proofs.Parts.{unequal-false}
 use Rattle.aka.proofs.Layouts.{AutnSized, length-autn, read-autn}
 use Rattle.aka.proofs.Places.{place-le, within-iff}
@@ -157,8 +157,8 @@ module _ (family : Family) (lawful : Lawful family) (x : Sample) (p : Proper fam
     first-row e =
         ap (λ (a : AucAnswer). firstSeq family x a) resync-row
         ∙ ap (vectorSeq width F) (batch-vector editions family (auc he) L (p .amf) st (x .rands) five (p .rands) 0 (omega arith))
-        ∙ autn-seq width (fitting .width edition) F L (seqAt st 0) (indAt (editions .numbering edition) (auc he) 0) (omega (arith, e)) (mod-lt _ (pow-pos width))
-        (x .amf) (randAt (x .rands) 0) (p .amf) (length-rand (x .rands) five (p .rands) 0 (omega arith))
+        ∙ autn-seq width (fitting .width edition) F L (seqAt st 0) (indAt (editions .numbering edition) (auc he) 0) (omega (arith, e))
+        (mod-lt _ (pow-pos width)) (x .amf) (randAt (x .rands) 0) (p .amf) (length-rand (x .rands) five (p .rands) 0 (omega arith))
         ∙ omega (arith, e)
 
   table : Table family x

@@ -16,8 +16,8 @@ use Rattle.octets.proofs.Xor.{length-xor}
 use Rattle.aka.specs.Layout.{randSize, autnSize, sqnSize, autsSize, readAutn, writeAuts}
 use Rattle.aka.specs.Functions.{Keys, Functions, Family, Shaped, Lawful}
 use Rattle.aka.specs.Sequence.{Scheme, Fitting, widthOf, FitsSqn, indices, limit}
-use Rattle.aka.specs.Usim.{Usim, UsimShaped, UsimAnswer, newUsim, highest, seqMs, sqnMs, challenge, unchanged, verdictOn, judgement, answerWith}
-use Rattle.aka.specs.Usim.{Verdict, accepted, macFailure, syncFailure, refused, refusalOf}
+use Rattle.aka.specs.Usim.{Usim, UsimShaped, UsimAnswer, newUsim, highest, seqMs, sqnMs, challenge, unchanged, verdictOn}
+use Rattle.aka.specs.Usim.{judgement, answerWith, Verdict, accepted, macFailure, syncFailure, refused, refusalOf}
 use Rattle.aka.specs.Usim.{validUsim, allWithin, lengthsRight, sqnIn, seqIn, indIn, macRight, fresh, makeAuts}
 use Rattle.aka.specs.UsimLaws.{autsOf, LengthsNamed, Unrefused, Fresh, Acceptable, OnePlace, UsimLaws, LowestIndex, SameAnswer}
 use Rattle.aka.specs.UsimLaws.{UsimPromise}

@@ -146,7 +146,8 @@ module _ (scheme : Scheme) (family : Family) (usim : Usim) (rand autn : Octets) 
   refused-3 valid bad = verdict-is ∙ rw (valid, bad)
 
   -- a valid record, and RAND and AUTN of the lengths named: no refusal
-  pub judged : validUsim scheme family usim ≡ true → lengthsRight rand autn ≡ true → answer .verdict ≡ judgement scheme family usim rand autn
+  pub judged : validUsim scheme family usim ≡ true → lengthsRight rand autn ≡ true
+      → answer .verdict ≡ judgement scheme family usim rand autn
   unfolding verdictOn
   judged valid lengths = verdict-is ∙ rw (valid, lengths)
 
@@ -261,4 +262,7 @@ module _ (scheme : Scheme) (fits : Fitting scheme) (family : Family) (usim : Usi
   unfolding answerWith
   made-accepted f =
       answer-of scheme family usim rand madeAutn accepted (made-verdict ∙ rw f)
-      ∙ rw (autn-seq x (fits .width (usim .edition)) H L seq ind hq hi amf rand ha hr, autn-ind x (fits .width (usim .edition)) H L seq ind hq hi amf rand ha hr)
+      ∙ rw (
+        autn-seq x (fits .width (usim .edition)) H L seq ind hq hi amf rand ha hr,
+        autn-ind x (fits .width (usim .edition)) H L seq ind hq hi amf rand ha hr,
+      )

@@ -261,7 +261,8 @@ pub record AucPromise (scheme : Scheme) (family : Family) : Type 0 where
   pub orders : (auc : Auc) (count : ℕ) (rands buffer : Octets) → OrderLaws scheme family auc count rands buffer
   pub resyncs : (auc : Auc) (count : ℕ) (rands buffer rand auts : Octets) → ResyncLaws scheme family auc count rands buffer rand auts
   -- 'a count of 0 means the default, 5', the most that a batch has
-  pub default-order : (auc : Auc) (rands buffer : Octets) → order scheme family auc 0 rands buffer ≡ order scheme family auc mostVectors rands buffer
+  pub default-order : (auc : Auc) (rands buffer : Octets)
+      → order scheme family auc 0 rands buffer ≡ order scheme family auc mostVectors rands buffer
   pub default-resync : (auc : Auc) (rands buffer rand auts : Octets)
       → resync scheme family auc 0 rands buffer rand auts ≡ resync scheme family auc mostVectors rands buffer rand auts
   -- refusal 1: 'unknown set, SEQ, index past its range'

@@ -1,5 +1,5 @@
--- The editions of card and centre records (document 02, #104), one row each. What depends on an edition goes through this table: there is no
--- other test of an edition. Assumes nothing.
+-- The editions of card and centre records (document 02, #104), one row each. What depends on an edition goes through this table: there is
+-- no other test of an edition. Assumes nothing.
 use Prim.Native.Nat.{ℕ, _-_}
 use mathlib.Core.Bool.{Bool, true, false, _&&_}
 use mathlib.Core.List.{List, [], _∷_}

@@ -82,4 +82,5 @@ pub record HandsetPromise (scheme : Scheme) (family : Family) : Type 0 where
   pub clear-refusal3 : (store : Store) → (length (store .octets) ≡ 56 → ⊥) → clear store ≡ record { refusal = 3; store = store }
   -- answer, shown and keep, one after the other, make the whole answer
   pub in-order : Lawful family → (usim : Usim) → Shaped (usim .keys) → (store : Store) (rand autn fresh : Octets)
-      → inOrder (told (challenged scheme family usim store rand autn fresh)) store rand ≡ challenged scheme family usim store rand autn fresh
+      → inOrder (told (challenged scheme family usim store rand autn fresh)) store rand
+      ≡ challenged scheme family usim store rand autn fresh

@@ -10,8 +10,8 @@ use Rattle.octets.specs.Octets.{Octets, Below, zeros, xor, encode}
 use Rattle.aka.specs.Layout.{randSize, autnSize, sqnSize, autsSize}
 use Rattle.aka.specs.Functions.{Keys, Functions, Family, Shaped, Lawful}
 use Rattle.aka.specs.Sequence.{D, Scheme, Fitting, widthOf, indices, limit, seqOf, indOf}
-use Rattle.aka.specs.Usim.{Usim, UsimShaped, UsimAnswer, newUsim, challenge, unchanged, validUsim, seqIn, indIn, macRight, seqMs, sqnMs}
-use Rattle.aka.specs.Usim.{accepted, macFailure, syncFailure, refused, refusalOf}
+use Rattle.aka.specs.Usim.{Usim, UsimShaped, UsimAnswer, newUsim, challenge, unchanged, validUsim, seqIn, indIn, macRight, seqMs}
+use Rattle.aka.specs.Usim.{sqnMs, accepted, macFailure, syncFailure, refused, refusalOf}
 
 -- 'AUTS is SQN_MS xor AK* (6), MAC-S (8)': AK* is f5* of RAND, and MAC-S is 'f1* of SQN_MS, RAND and an AMF of two zero bytes'
 abbrev pub autsOf : Functions → (sqn : ℕ) (rand : Octets) → Octets

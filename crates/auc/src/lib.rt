@@ -117,8 +117,8 @@ fn resume(
     requires lent { ⌜ (length (now rands) ≡ randSize * n) × (length (now batch) ≡ vectorSize * n) ⌝ }
     ensures { λ r. ⌜
         answerOf r (now (batch .exit))
-        ≡ answerWith editions sets (aucOf auc) (resyncFrom editions sets (aucOf auc) rand auts n) (now (rands .entry)) n (now (batch .entry))
-        (autsOutcome editions sets (aucOf auc) rand auts n)
+        ≡ answerWith editions sets (aucOf auc) (resyncFrom editions sets (aucOf auc) rand auts n) (now (rands .entry)) n
+        (now (batch .entry)) (autsOutcome editions sets (aucOf auc) rand auts n)
         ⌝ }
 {
     let keys = auc.keys;

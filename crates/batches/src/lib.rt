@@ -59,7 +59,8 @@ fn put_at(
     requires lent { ⌜ (randSize * k + randSize ≤ length (now rands)) × (vectorSize * k + vectorSize ≤ length (now batch)) ⌝ }
     ensures { λ _. ⌜
         now (batch .exit)
-        ≡ take (vectorSize * k) (now (batch .entry)) ++ writeVector (vectorFrom editions sets (countedBy s) (s .from) (now (rands .entry)) k)
+        ≡ take (vectorSize * k) (now (batch .entry))
+        ++ writeVector (vectorFrom editions sets (countedBy s) (s .from) (now (rands .entry)) k)
         ++ drop (vectorSize * k + vectorSize) (now (batch .entry))
         ⌝ }
 {

@@ -65,19 +65,19 @@ lost = record {
 }
 
 ran : Ran lost
-unfolding isEdition rowOf isSet sets testOutputs baseOf outputs outputsOf challenge verdictOn judgement answerWith validUsim lengthsRight macRight fresh
-    highest lowestIndex allWithin allZero makeAuts makeAutn writeAutn readAutn writeAuts readAuts xor equal digits spelt pairFrom pairWith
-    validAuc auc.answerWith lentFor lentAuts unlessRefused unlessPast inRange macSRight autsOutcome resyncOutcome resync
-    batchFrom makeVector writeVector readVector joined turnLeft
+unfolding isEdition rowOf isSet sets testOutputs baseOf outputs outputsOf challenge verdictOn judgement answerWith validUsim lengthsRight
+    macRight fresh highest lowestIndex allWithin allZero makeAuts makeAutn writeAutn readAutn writeAuts readAuts xor equal digits
+    spelt pairFrom pairWith validAuc auc.answerWith lentFor lentAuts unlessRefused unlessPast inRange macSRight autsOutcome resyncOutcome
+    resync batchFrom makeVector writeVector readVector joined turnLeft
 ran = record {
   failure = record { answer-is = refl; sqn-told = (refl, omega arith); shape = record { keys = record { k = refl; opc = refl }; places = refl } };
   resynced = record { answer-is = refl; shape = record { keys = record { k = refl; opc = refl }; amf = refl } };
 }
 
 premise : aka.Premise editions sets (settingOf lost)
-unfolding isEdition rowOf isSet sets testOutputs baseOf outputs outputsOf challenge verdictOn judgement answerWith validUsim lengthsRight macRight fresh
-    highest lowestIndex allWithin allZero makeAuts makeAutn writeAutn readAutn writeAuts readAuts xor equal digits spelt pairFrom pairWith
-    validAuc turnLeft
+unfolding isEdition rowOf isSet sets testOutputs baseOf outputs outputsOf challenge verdictOn judgement answerWith validUsim lengthsRight
+    macRight fresh highest lowestIndex allWithin allZero makeAuts makeAutn writeAutn readAutn writeAuts readAuts xor equal digits
+    spelt pairFrom pairWith validAuc turnLeft
 premise = record {
   usim-valid = refl;
   auc-valid = refl;

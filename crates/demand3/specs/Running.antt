@@ -75,7 +75,8 @@ module _ (s : Setting) where
     -- `Demand3.Promised` says
     pub all : (calls : List Call) → Chain (s .failure .usim) calls → aka.Each aka.OtherNotAccepted (answered calls)
         → aka.Each
-        (aka.Promised (widthOf editions (s .usim .edition)) (sets .under (keysOf (s .usim .keys))) (s .batch) (resyncCount (s .count)) (s .resynced .auc .seqhe))
+        (aka.Promised (widthOf editions (s .usim .edition)) (sets .under (keysOf (s .usim .keys))) (s .batch)
+        (resyncCount (s .count)) (s .resynced .auc .seqhe))
         (answered calls)
 
 -- `aka.Premise`: valid records of the same edition and keys, count and lent parts as named, room, and a synchronisation failure

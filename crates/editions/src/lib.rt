@@ -1,5 +1,5 @@
-// The editions of card and centre records (document 02, #104), as aka/specs/Editions has them: the one table of what differs from edition to
-// edition. No other code tests an edition.
+// The editions of card and centre records (document 02, #104), as aka/specs/Editions has them: the one table of what differs from edition
+// to edition. No other code tests an edition.
 ghost use Prim.Native.Nat.{_+_, _%_, _≤_, _<_};
 ghost use mathlib.Core.Bool.{cond};
 ghost use mathlib.Core.Path.{_≡_};

@@ -1,5 +1,6 @@
--- The theorems are not empty: settings that meet demand 3's premise, one of edition 1, reset, and one of edition 2, kept; a list of calls, some of the batch and some
--- not; a sample of the worked table; and the octets of document 01's sample run, computed from the definitions. Assumes nothing.
+-- The theorems are not empty: settings that meet demand 3's premise, one of edition 1, reset, and one of edition 2, kept; a list of calls,
+-- some of the batch and some not; a sample of the worked table; and the octets of document 01's sample run, computed from the definitions.
+-- Assumes nothing.
 use Prim.Native.Nat.{ℕ, _≤_}
 use mathlib.Core.Bool.{true}
 use mathlib.Core.List.{List, [], _∷_, _++_, map}
@@ -120,11 +121,10 @@ not-refused : refused 3 ≡ accepted → ⊥
 not-refused e = zero-not-one (cc)
 
 pub computed : Computed
-unfolding isEdition rowOf isSet sets testOutputs baseOf outputs outputsOf challenge verdictOn judgement answerWith validUsim lengthsRight macRight fresh highest
-    lowestIndex allWithin allZero makeAuts makeAutn writeAutn readAutn writeAuts readAuts xor equal digits spelt pairFrom pairWith validAuc
-    auc.answerWith lentFor lentAuts unlessRefused unlessPast inRange macSRight autsOutcome resyncOutcome resync
-    batchFrom makeVector writeVector
-    readVector joined turnLeft answersTo placeFrom carries
+unfolding isEdition rowOf isSet sets testOutputs baseOf outputs outputsOf challenge verdictOn judgement answerWith validUsim lengthsRight
+    macRight fresh highest lowestIndex allWithin allZero makeAuts makeAutn writeAutn readAutn writeAuts readAuts xor equal digits
+    spelt pairFrom pairWith validAuc auc.answerWith lentFor lentAuts unlessRefused unlessPast inRange macSRight autsOutcome resyncOutcome
+    resync batchFrom makeVector writeVector readVector joined turnLeft answersTo placeFrom carries
 computed = record {
   autn = refl;
   res = refl;

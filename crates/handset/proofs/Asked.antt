@@ -37,5 +37,6 @@ module _ (scheme : Scheme) (family : Family) (usim : Usim) (store : Store) (rand
   pub asks : (partsRight store rand fresh && eqb (length autn) autnSize) ≡ true → repeats store rand ≡ false
       → told (challenged scheme family usim store rand autn fresh) ≡ askedWith asked fresh
   asks fit other =
-      ap told (known.answer-of scheme family usim store rand autn fresh _ (known.asks-card scheme family usim store rand autn fresh fit other))
+      ap told
+      (known.answer-of scheme family usim store rand autn fresh _ (known.asks-card scheme family usim store rand autn fresh fit other))
       ∙ with-verdict (asked .verdict) refl

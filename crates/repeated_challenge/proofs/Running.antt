@@ -61,5 +61,6 @@ all-shaped phone (x ∷ rest) chain = (
 
 pub running : RepeatedChallenge
 running phone calls chain =
-    subst (λ (l : List (aka.On aka.Handled)). aka.Conclusion editions sets phone l (map callOn calls)) (sym (same-answers phone calls chain))
+    subst (λ (l : List (aka.On aka.Handled)). aka.Conclusion editions sets phone l (map callOn calls))
+    (sym (same-answers phone calls chain))
     (repeated-challenge-holds phone (map callOn calls) (all-shaped phone calls chain))

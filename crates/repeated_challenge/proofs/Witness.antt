@@ -103,9 +103,10 @@ abbrev phone : Phone
 phone = record { voice = handset.cleared; packets = handset.cleared }
 
 chain : Chain phone calls
-unfolding Chain isEdition rowOf isSet sets testOutputs baseOf outputs outputsOf challenge verdictOn judgement answerWith validUsim lengthsRight macRight fresh
-    highest lowestIndex allWithin allZero makeAuts writeAutn readAutn writeAuts readAuts writeAnswer xor equal digits spelt turnLeft
-    handset.repeats handset.partsRight handset.outcomeOn handset.answerWith handset.challenged handset.source handset.keep handset.clear
+unfolding Chain isEdition rowOf isSet sets testOutputs baseOf outputs outputsOf challenge verdictOn judgement answerWith validUsim
+    lengthsRight macRight fresh highest lowestIndex allWithin allZero makeAuts writeAutn readAutn writeAuts readAuts writeAnswer xor equal
+    digits spelt turnLeft handset.repeats handset.partsRight handset.outcomeOn handset.answerWith handset.challenged handset.source
+    handset.keep handset.clear
 chain = (
   three (shaped 0 _ refl) refl refl refl,
   (

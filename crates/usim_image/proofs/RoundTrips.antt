@@ -32,7 +32,8 @@ use Rattle.usim_image.specs.Image.{placesAt, placesSize, imageSize, imag
 -- ---- the image alone, for any scheme whose places fill whole octets
 
 module _ (scheme : Scheme) (fits : Fitting scheme)
-    (filled : (edition : ℕ) → seqBits (widthOf scheme edition) * indices (widthOf scheme edition) ≡ 8 * placesSize (widthOf scheme edition)) where
+    (filled : (edition : ℕ)
+    → seqBits (widthOf scheme edition) * indices (widthOf scheme edition) ≡ 8 * placesSize (widthOf scheme edition)) where
   abbrev widthAt : Usim → ℕ
   widthAt usim = widthOf scheme (usim .edition)
 

@@ -35,7 +35,8 @@ by-size true buffer image = refl
 by-size false buffer image = refl
 
 pub usim-written : (card : Usim) (buffer : Octets) → validUsim editions sets card ≡ true
-    → returnedOf (usim.writeAnswer (usim.format editions sets) card buffer) ≡ sized (usim.imageSize (widthOf editions (card .edition))) buffer (usim.image editions card)
+    → returnedOf (usim.writeAnswer (usim.format editions sets) card buffer)
+    ≡ sized (usim.imageSize (widthOf editions (card .edition))) buffer (usim.image editions card)
 unfolding usim.writeAnswer
 usim-written card buffer valid = rw valid (by-size (eqb (length buffer) (usim.imageSize (widthOf editions (card .edition)))) buffer _)
 

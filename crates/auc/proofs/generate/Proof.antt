@@ -82,7 +82,8 @@ returns-2 c =
     let outcome = outcomeOf (args .outcome) in
     let within = not-past editions sets (auc s) (args .from) (args .n) outcome (inside (passed f)) in
     let given = answer-given editions sets (auc s) (args .from) (args .rands .now) (args .n) (args .batch .now) outcome (s .pre .1 .1 .1) in
-    let batch = same-batch (auc s .edition) (auc s .keys) (auc s .amf) (args .from) (auc s .seqhe) (auc s .next) (args .from) (args .rands .now) (args .n) in
+    let batch = same-batch (auc s .edition) (auc s .keys) (auc s .amf) (args .from) (auc s .seqhe) (auc s .next) (args .from)
+    (args .rands .now) (args .n) in
     ap₂ (told outcome (args .n)) (c .after-batch .ensures) (f .fill .ensures ∙ batch)
     ∙ sym (ap (answer s) within ∙ given)
 

@@ -83,7 +83,8 @@ outcome k m = autsOutcome editions sets (auc k) (rand k) (auts k) m
 
 abbrev answer : tie.After-check → (m : ℕ) (rand auts : Octets) → AucAnswer
 answer k m x y =
-    answerWith editions sets (auc k) (resyncFrom editions sets (auc k) x y m) (rands k) m (buffer k) (autsOutcome editions sets (auc k) x y m)
+    answerWith editions sets (auc k) (resyncFrom editions sets (auc k) x y m) (rands k) m (buffer k)
+    (autsOutcome editions sets (auc k) x y m)
 
 returns : tie.Need-returns
 returns c =

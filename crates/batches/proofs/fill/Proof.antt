@@ -16,7 +16,8 @@ use Rattle.batches.proofs.fill.Tie as tie
 
 abbrev Inv-loop : tie.InvT-loop
 Inv-loop table schedule s rands n batch₀ k₀ batch k =
-    (k ≤ n) × (length batch ≡ length batch₀) × Filled batch₀ (batchFrom editions sets (countedBy s) (s .from) rands k) (vectorSize * k) batch
+    (k ≤ n) × (length batch ≡ length batch₀)
+    × Filled batch₀ (batchFrom editions sets (countedBy s) (s .from) rands k) (vectorSize * k) batch
 
 abbrev μ-loop : tie.MeasureT-loop
 μ-loop table schedule s rands n batch₀ k₀ batch k = n - k

@@ -38,7 +38,8 @@ widthAt c = widthOf editions (entry (prepared (recovered c)) .args .edition)
 within : (c : tie.After-sqn-number) → c .sqn-number .result / row c .row .result .indices ≤ limit (widthAt c)
 within c =
     subst (λ (n : ℕ). c .sqn-number .result / n ≤ limit (widthAt c)) (sym (row c .row .ensures .indices .number))
-    (seq-le (widthAt c) (fitting .width (entry (prepared (recovered c)) .args .edition)) (c .sqn-number .result) (c .sqn-number .ensures .1))
+    (seq-le (widthAt c) (fitting .width (entry (prepared (recovered c)) .args .edition)) (c .sqn-number .result)
+    (c .sqn-number .ensures .1))
 
 module _ (c : tie.After-in-range) where
   abbrev number : tie.After-sqn-number

@@ -33,8 +33,10 @@ put-head-requires c κs =
 put-places-requires : tie.Need-put-places-requires
 put-places-requires c κs =
     let done = c .before .before .before in
-    let start = entry done in
-    (omega (arith, done .put-head .kept .0, start .pre .1), within-below (seqBits (widthOf editions (start .args .usim .edition))) _ .0 (valid-parts editions sets _ (start .pre .0) .1))
+    let start = entry done in (
+      omega (arith, done .put-head .kept .0, start .pre .1),
+      within-below (seqBits (widthOf editions (start .args .usim .edition))) _ .0 (valid-parts editions sets _ (start .pre .0) .1),
+    )
 
 same-length : tie.Need-same-length
 same-length c =

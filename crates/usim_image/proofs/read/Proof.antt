@@ -35,7 +35,8 @@ edition-is c b e = ap isEdition (sym (named c .edition-in .ensures)) ∙ sym (c 
 
 keys-are : (c : tie.After-admits) (b : Bool) → c .admits .result ≡ b → admittedHead sets (image (tested (sized c))) ≡ b
 keys-are c b e =
-    ap₂ (sets .admits) (sym (named (tested (sized c)) .edition-in .ensures)) (sym (c .before .keys-in .ensures)) ∙ sym (c .admits .ensures) ∙ e
+    ap₂ (sets .admits) (sym (named (tested (sized c)) .edition-in .ensures)) (sym (c .before .keys-in .ensures))
+    ∙ sym (c .admits .ensures) ∙ e
 
 size-is : (c : tie.After-size) → c .size .result ≡ imageSize (widthOf editions (editionIn (image (tested c))))
 size-is c = c .size .ensures .0 ∙ ap (λ (e : ℕ). imageSize (widthOf editions e)) (named (tested c) .edition-in .ensures)
@@ -69,7 +70,8 @@ returns-4 c =
     let at = sized last in
     let unknown = keys-are last false (not-true _ (c .before .if4 .taken)) in
     c .refused-read4 .ensures
-    ∙ sym (read-unknown (format editions sets) _ (named (tested at) .before .if1 .left) (known-there at) (long-there (last .before .before)) unknown)
+    ∙ sym (read-unknown (format editions sets) _ (named (tested at) .before .if1 .left) (known-there at)
+    (long-there (last .before .before)) unknown)
 
 unpack-requires : tie.Need-unpack-requires
 unpack-requires c κs = long-there (c .before .before .before)
@@ -80,7 +82,8 @@ returns-5 c =
     let at = sized last in
     let admitted = keys-are last true (not-false _ (c .before .if4 .left)) in
     ap (λ (r : Usim). record { refusal = 0; contents = r }) (c .unpack .ensures)
-    ∙ sym (read-known (format editions sets) _ (named (tested at) .before .if1 .left) (known-there at) (long-there (last .before .before)) admitted)
+    ∙ sym (read-known (format editions sets) _ (named (tested at) .before .if1 .left) (known-there at)
+    (long-there (last .before .before)) admitted)
 
 pub read-spec : {M : Type 1} → statement M
 read-spec =

@@ -18,7 +18,8 @@ valid : (c : tie.Else1) → format editions sets .valid (usimOf (c .before .befo
 valid c = sym (c .before .is-valid .ensures) ∙ not-false _ (c .if1 .left)
 
 -- the buffer has the size of the record's edition
-fits : (c : tie.Else2) → length (c .before .before .before .before .before .args .buffer .now) ≡ imageSize (widthOf editions (c .before .before .before .before .before .args .usim .edition))
+fits : (c : tie.Else2) → length (c .before .before .before .before .before .args .buffer .now)
+    ≡ imageSize (widthOf editions (c .before .before .before .before .before .args .usim .edition))
 fits c = c .if2 .left ∙ c .before .size .ensures .0
 
 returns : tie.Need-returns

@@ -70,7 +70,8 @@ returns-4 c =
     (written c .write .ensures
     ∙ ap (λ (u : Usim). writeAnswer (format editions sets) u (args .image .now))
     (new .new .ensures ∙ ap (newUsim editions edition) (new .before .keys-from .ensures)))
-    ∙ usim-written card (args .image .now) (usim-holds .new-valid edition (card .keys) (admitted edition (card .keys) (known-edition (dated set)) (known set))))
+    ∙ usim-written card (args .image .now)
+    (usim-holds .new-valid edition (card .keys) (admitted edition (card .keys) (known-edition (dated set)) (known set))))
 
 pub vetrhoss-new-usim-spec : {M : Type 1} → statement M
 vetrhoss-new-usim-spec =
