@@ -55,9 +55,11 @@ rands = zeros 16 ++ (1 ∷ zeros 15)
 abbrev vec : ℕ → Vector
 vec g = vectorAt (order editions sets (aucWith 1 0 0) 2 rands (zeros 144) .batch) g
 
+abbrev lateRun : List Event
+lateRun = ordering 2 rands (zeros 144) ∷ challenging (vec 1 .rand) (vec 1 .autn) ∷ []
+
 abbrev late : Stand
-late =
-    run editions sets (beginning editions sets (aucWith 1 0 0)) (ordering 2 rands (zeros 144) ∷ challenging (vec 1 .rand) (vec 1 .autn) ∷ [])
+late = run editions sets (beginning editions sets (aucWith 1 0 0)) lateRun
 
 first-blocks : Open editions sets late → ⊥
 unfolding isEdition rowOf isSet sets testOutputs baseOf outputs outputsOf challenge verdictOn judgement answerWith validUsim lengthsRight
@@ -68,8 +70,7 @@ first-blocks is-open =
     not-sync (is-open 0 (vec 0) refl (omega arith) (λ among. ⊎-elim (λ e. omega (arith, e)) (λ none. none) among) (omega arith) .verdict)
 
 -- its other premises are met
-first-proper : AllProper editions sets (beginning editions sets (aucWith 1 0 0))
-    (ordering 2 rands (zeros 144) ∷ challenging (vec 1 .rand) (vec 1 .autn) ∷ [])
+first-proper : AllProper editions sets (beginning editions sets (aucWith 1 0 0)) lateRun
 unfolding isEdition rowOf isSet sets testOutputs baseOf outputs outputsOf makeAutn writeAutn readAutn xor equal digits spelt pairFrom
     pairWith validAuc auc.answerWith lentFor unlessRefused unlessPast orderOutcome order batchFrom makeVector writeVector readVector joined
     turnLeft vectorsIn after AllProper

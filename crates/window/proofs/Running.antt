@@ -105,7 +105,8 @@ module _ (auc : Auc) (valid : validAuc editions sets (aucOf auc) ≡ true) (late
   of-definitions : AucShaped (aucOf auc) → claim.Open editions sets (standOf last)
   of-definitions shaped =
       let events = map eventOf happenings in
-      let proper = subst (λ (s : aka.Stand). claim.AllProper editions sets s events) begins (all-proper (startWith usim auc) happenings ran) in
+      let proper =
+      subst (λ (s : aka.Stand). claim.AllProper editions sets s events) begins (all-proper (startWith usim auc) happenings ran) in
       subst (λ (s : aka.Stand). claim.Open editions sets s)
       (sym (same-end (startWith usim auc) happenings ran ∙ ap (λ (s : aka.Stand). aka.run editions sets s events) begins))
       (window-holds (aucOf auc) shaped valid late events proper)
