@@ -1,10 +1,15 @@
 -- The table of editions: each index has its place. Assumes nothing.
 use Prim.Native.Nat.{ℕ, zero, suc, _+_, _-_, _*_, _^_, _≤_, _<_}
-use mathlib.Core.Path.{_≡_, refl}
+use mathlib.Core.Bool.{true, and-eq-true-iff}
+use mathlib.Core.Path.{_≡_, refl, sym, subst}
 use native.Mathlib.Omega.{arith}
+use borrow.Author.Tests.{leb-true}
+use lib.Dec.{leb}
+use lib.ListN.{length}
 use lib.Pow.{pow-pos}
 use Rattle.aka.specs.Sequence.{Fitting, sqnBits, widthOf, indices, limit}
-use Rattle.aka.specs.Editions.{Edition, first, second, rowOf, cardPlaces, editions}
+use Rattle.aka.specs.Editions.{Edition, first, second, table, isEdition, rowOf, cardPlaces, editions}
+use Rattle.aka.specs.Window.{Wide}
 use Rattle.aka.proofs.Sequence.{sqn-lt}
 
 -- edition 2 has its own row; any other number that of edition 1
@@ -36,6 +41,14 @@ fitting = record {
 
 pub limit-below : (edition : ℕ) → limit (widthOf editions edition) < 2 ^ sqnBits
 limit-below = each-row (λ row. limit (row .numbering .width) < 2 ^ sqnBits) (omega arith) (omega arith)
+
+-- from edition 2 on the index goes up for each vector, and comes again after 64
+pub later-wide : (edition : ℕ) → isEdition edition ≡ true → 2 ≤ edition → Wide editions edition
+unfolding isEdition rowOf
+later-wide edition known late =
+    let within = and-eq-true-iff (leb 1 edition) (leb edition (length table)) .0 known .1 in
+    let is : edition ≡ 2 = omega (arith, leb-true edition 2 within) in
+    subst (Wide editions) (sym is) (record { each = refl; enough = omega arith })
 
 -- of whichever edition, an SQN with a SEQ within its limit has 48 bits
 pub room : (edition seq : ℕ) → seq ≤ limit (widthOf editions edition) → indices (widthOf editions edition) * seq < 2 ^ sqnBits

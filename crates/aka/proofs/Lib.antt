@@ -26,6 +26,7 @@ pub mod VlrWitnesses
 pub mod Triplets
 pub mod ShutOut
 pub mod Runs
+pub mod Window
 pub mod Rising
 pub mod Demand3
 pub mod Handset

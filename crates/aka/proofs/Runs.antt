@@ -130,8 +130,8 @@ module _ (scheme : Scheme) (family : Family) (auc : Auc) where
       in-range e false q =
           let o = given-by-range scheme family auc count rands buffer rand auts e .0 in
           absurd (never (
-            outcome-is scheme family auc count n rands buffer (resyncFrom scheme family auc rand auts n) outcome
-            ∙ o ∙ ap (λ (b : Bool). cond b kept reset) q
+          outcome-is scheme family auc count n rands buffer (resyncFrom scheme family auc rand auts n) outcome
+          ∙ o ∙ ap (λ (b : Bool). cond b kept reset) q
           ))
 
       go : (b : Bool) → eqb (refusalOf outcome) 0 ≡ b → Goal (resync scheme family auc count rands buffer rand auts)

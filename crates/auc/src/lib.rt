@@ -68,9 +68,10 @@ fn generate(
 
 // The AuC's whole answer to an order.
 pub fn order(auc: Auc, count: u64, rands: &[u8], batch: &mut [u8]) -> Answer
-    ensures { λ r. ⌜
+    ensures answer { λ r. ⌜
         answerOf r (now (batch .exit)) ≡ orderOf editions sets (aucOf auc) count (now (rands .entry)) (now (batch .entry))
         ⌝ }
+    ensures shape { λ _. ⌜ AucShaped (aucOf auc) ⌝ }
 {
     let checked = auc_record::check(auc, aka::DEFAULT_COUNT, count, rands, batch.len(), true);
     match checked {

@@ -17,7 +17,8 @@ use Rattle.aka.specs.Editions.{editions}
 use Rattle.usim_record.specs.declared.Usim.{Usim}
 use Rattle.usim_record.specs.Views as cardViews
 use Rattle.auc_record.specs.Views as centreViews
-use Rattle.demand3.specs.Running.{Setting, Ran, Call, Chain, callOf, counted, settingOf, Conclusion, Demand3}
+use Rattle.runs.specs.Calls.{Call, Chain, callOf}
+use Rattle.demand3.specs.Running.{Setting, Ran, counted, settingOf, Conclusion, Demand3}
 
 -- the answers of the code are those of the definitions
 same-answers : (batch : Octets) (n : ℕ) (u : Usim) (last : Option ℕ) (calls : List Call) → Chain u calls

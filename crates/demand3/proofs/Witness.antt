@@ -70,7 +70,11 @@ unfolding isEdition rowOf isSet sets testOutputs baseOf outputs outputsOf challe
     spelt pairFrom pairWith validAuc auc.answerWith lentFor lentAuts unlessRefused unlessPast inRange macSRight autsOutcome resyncOutcome
     resync batchFrom makeVector writeVector readVector joined turnLeft
 ran = record {
-  failure = record { answer-is = refl; shape = record { keys = record { k = refl; opc = refl }; places = refl } };
+  failure = record {
+    answer-is = refl;
+    sqn-told = (refl, omega arith);
+    shape = record { keys = record { k = refl; opc = refl }; places = refl };
+  };
   resynced = record { answer-is = refl; shape = record { keys = record { k = refl; opc = refl }; amf = refl } };
 }
 

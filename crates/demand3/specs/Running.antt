@@ -8,8 +8,7 @@ use mathlib.Core.Path.{_≡_}
 use Rattle.octets.specs.Octets.{Octets}
 use Rattle.functions.specs.Sets.{sets}
 use Rattle.functions.specs.Challenge.{keysOf}
-use Rattle.aka.specs.Auc.{AucShaped, kept, reset, resyncCount, resync}
-use Rattle.aka.specs.Usim.{UsimShaped, challenge}
+use Rattle.aka.specs.Auc.{kept, reset, resyncCount}
 use Rattle.aka.specs.Demand3 as aka
 use Rattle.aka.specs.Sequence.{widthOf}
 use Rattle.aka.specs.Editions.{editions}
@@ -19,16 +18,8 @@ use Rattle.usim_record.specs.Views as cardViews
 use Rattle.auc_record.specs.declared.Auc.{Auc}
 use Rattle.auc_record.specs.declared.Answer as centre
 use Rattle.auc_record.specs.Views as centreViews
-
--- what the contract of `usim::challenge` says of its answer, and of the record that it was given
-pub record Answered (usim : Usim) (rand autn : Octets) (answer : card.Answer) : Type 0 where
-  pub answer-is : cardViews.answerOf answer ≡ challenge editions sets (cardViews.usimOf usim) rand autn
-  pub shape : UsimShaped editions (cardViews.usimOf usim)
-
--- what the contract of `auc::resynchronise` says of its answer, of what the buffer holds at the end, and of the record that it was given
-pub record Resynchronised (auc : Auc) (count : ℕ) (rands buffer rand auts : Octets) (answer : centre.Answer) (batch : Octets) : Type 0 where
-  pub answer-is : centreViews.answerOf answer batch ≡ resync editions sets (centreViews.aucOf auc) count rands buffer rand auts
-  pub shape : AucShaped (centreViews.aucOf auc)
+use Rattle.runs.specs.Contracts.{Answered, Resynchronised}
+use Rattle.runs.specs.Calls.{Call, Chain, callOf}
 
 -- a card, a challenge to it and its answer; a centre, what is lent to its resynchronisation, and its answer
 pub record Setting : Type 0 where
@@ -59,20 +50,6 @@ settingOf s = record {
 pub record Ran (s : Setting) : Type 0 where
   pub failure : Answered (s .usim) (s .rand) (s .autn) (s .failure)
   pub resynced : Resynchronised (s .auc) (s .count) (s .rands) (s .buffer) (s .rand) (s .failure .auts) (s .resynced) (s .batch)
-
--- a call of the card, with a RAND and AUTN of any octets, and its answer
-pub record Call : Type 0 where
-  pub rand : Octets
-  pub autn : Octets
-  pub answer : card.Answer
-
--- each call gets the record that the one before returned
-unfoldable pub Chain : Usim → List Call → Type 0
-Chain usim [] = Unit {0}
-Chain usim (call ∷ rest) = Answered usim (call .rand) (call .autn) (call .answer) × Chain (call .answer .usim) rest
-
-abbrev pub callOf : Call → aka.Call
-callOf call = record { rand = call .rand; autn = call .autn }
 
 -- the calls with what they are counted as (`aka` `Demand3.placeOf`) and what the card answered
 module _ (batch : Octets) (n : ℕ) where

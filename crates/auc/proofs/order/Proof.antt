@@ -5,8 +5,9 @@ use mathlib.Core.Path.{refl, _∙_}
 use Rattle.octets.specs.Octets.{Octets}
 use Rattle.functions.specs.Sets.{sets}
 use Rattle.aka.specs.Editions.{editions}
-use Rattle.aka.specs.Auc.{Auc, Outcome, given, unlessPast}
+use Rattle.aka.specs.Auc.{Auc, AucShaped, Outcome, given, unlessPast}
 use Rattle.auc_record.specs.Views.{aucOf}
+use Rattle.auc_record.proofs.Shapes.{auc-shaped}
 use Rattle.auc.proofs.Answers.{Asked, asked, when-refused, when-asked, order-is}
 use borrow.Author.Needs.{needs}
 use Rattle.auc.proofs.order.Statement.{statement}
@@ -39,6 +40,10 @@ module _ (c : tie.After-check) where
   abbrev buffer : Octets
   buffer = entry c .args .batch .now
 
+  -- the type of the record tells the lengths of its parts
+  shaped : AucShaped auc
+  shaped = auc-shaped (entry c .args .auc) _ (entry c .good .0)
+
   -- the batch follows SEQ_HE; the outcome behind refusals 1 to 4; both by the count that results
   abbrev from : (m : ℕ) → ℕ
   from m = auc .seqhe
@@ -63,19 +68,25 @@ generate-requires c κs =
 returns : tie.Need-returns
 returns c =
     let refusal = c .before .before in
-    let k = refusal .before .before in
-    c .refused .ensures (buffer k)
-    ∙ when-refused (auc k) (count k) (rands k) (buffer k) true (from k) (outcome k) _ _ (refusal .checked .given .1) (k .check .ensures)
-    ∙ order-is (auc k) (count k) (rands k) (buffer k)
+    let k = refusal .before .before in (
+      c .refused .ensures (buffer k)
+          ∙ when-refused (auc k) (count k) (rands k) (buffer k) true (from k) (outcome k) _ _ (refusal .checked .given .1)
+          (k .check .ensures)
+          ∙ order-is (auc k) (count k) (rands k) (buffer k),
+      shaped k,
+    )
 
 returns-2 : tie.Need-returns-2
 returns-2 c =
     let generated = c .before .before in
     let n = counted (scheduled (generated .before)) in
-    let k = checked n in
-    generated .generate .ensures
-    ∙ when-asked (auc k) (count k) (rands k) (buffer k) true (from k) (outcome k) _ _ (n .before .checked2 .given .1) (k .check .ensures)
-    ∙ order-is (auc k) (count k) (rands k) (buffer k)
+    let k = checked n in (
+      generated .generate .ensures
+          ∙ when-asked (auc k) (count k) (rands k) (buffer k) true (from k) (outcome k) _ _ (n .before .checked2 .given .1)
+          (k .check .ensures)
+          ∙ order-is (auc k) (count k) (rands k) (buffer k),
+      shaped k,
+    )
 
 pub order-spec : {M : Type 1} → statement M
 order-spec =

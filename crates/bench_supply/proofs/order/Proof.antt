@@ -27,7 +27,7 @@ module _ (c : tie.After-order) where
   answer-is : answerOf (c .order .result) batch
       ≡ orderAnswer desk (entry c .args .count) (entry c .args .rands .now) (entry c .args .batch .now)
   unfolding orderAnswer
-  answer-is = c .order .ensures
+  answer-is = c .order .ensures .0
 
 returns : tie.Need-returns
 returns c =

@@ -34,7 +34,7 @@ hand-on-requires c κs =
     let image = taken ask in
     let valid = read-valid _ _ (is-read (image .before) .read .ensures) (image .if1 .left) in
     let stays = auc-holds .orders _ _ _ _ .stays-valid (valid .1) in
-    (ap (λ (a : AucAnswer). validAuc editions sets (a .auc)) (ask .order .ensures) ∙ stays, valid .0)
+    (ap (λ (a : AucAnswer). validAuc editions sets (a .auc)) (ask .order .ensures .0) ∙ stays, valid .0)
 
 returns-2 : tie.Need-returns-2
 unfolding onImage
@@ -42,7 +42,7 @@ returns-2 c =
     let ask = asked (handed c .before) in
     let image = taken ask in
     rw (← is-read (image .before) .read .ensures, eq-eqb _ 0 (image .if1 .left))
-    (handed-on _ _ _ (ask .order .ensures) (handed c .hand-on .ensures))
+    (handed-on _ _ _ (ask .order .ensures .0) (handed c .hand-on .ensures))
 
 pub vetrhoss-order-spec : {M : Type 1} → statement M
 vetrhoss-order-spec =

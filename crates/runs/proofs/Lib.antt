@@ -1,0 +1,2 @@
+mod Contracts
+pub mod Calls

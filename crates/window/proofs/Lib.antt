@@ -1,0 +1,3 @@
+pub mod Running
+mod Witness
+mod Needed
