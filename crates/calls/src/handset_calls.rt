@@ -1,10 +1,10 @@
 // The calls of the handset.
-use crate::call;
-use crate::call::Call;
-use crate::call::LONGEST;
-use crate::text;
-use crate::text::Text;
 use crate::usim_calls;
+use call_lines::call;
+use call_lines::call::Call;
+use call_lines::call::LONGEST;
+use call_lines::text;
+use call_lines::text::Text;
 use handset::Outcome;
 use handset::Told;
 use usim::Usim;

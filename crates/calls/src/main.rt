@@ -1,11 +1,11 @@
 // The public calls, one a line: a word, then fields with one space between. docs/CALLS.md has the words.
 mod auc_calls;
-mod call;
 mod handset_calls;
-mod text;
 mod usim_calls;
 mod vlr_calls;
 
+use call_lines::call;
+use call_lines::text;
 use console::Progress;
 use vlr::Vlr;
 use vlr_calls::Answered;
@@ -15,7 +15,7 @@ ghost use lib.ListN.{length};
 ghost use Rattle.aka.specs.Vlr.{newVlr};
 ghost use Rattle.vlr_record.specs.Views.{vlrOf};
 ghost use Rattle.console.specs.Turns.{AnsweredIf, Ran, standingOf};
-ghost use Rattle.calls.specs.Limits.{longestAnswer};
+ghost use Rattle.call_lines.specs.Limits.{longestAnswer};
 ghost use Rattle.calls.specs.Program.{AnyAnswer};
 
 // The answer to a line, and the node for the next one.

@@ -1,14 +1,14 @@
 // The calls of the card.
-use crate::call;
-use crate::call::Call;
-use crate::call::LONGEST;
-use crate::call::MOST_LENT;
-use crate::text;
-use crate::text::Text;
+use call_lines::call;
+use call_lines::call::Call;
+use call_lines::call::LONGEST;
+use call_lines::call::MOST_LENT;
+use call_lines::text;
+use call_lines::text::Text;
 use usim::Usim;
 use usim::Verdict;
 ghost use Prim.Native.Nat.{_≤_};
-ghost use Rattle.calls.specs.Limits.{mostLent};
+ghost use Rattle.call_lines.specs.Limits.{mostLent};
 
 // The answer to a line; no text where it is no call of the card.
 pub fn answer(line: &[u8]) -> Text {

@@ -1,9 +1,9 @@
 // The calls of the node.
-use crate::call;
-use crate::call::Call;
-use crate::call::LONGEST;
-use crate::text;
-use crate::text::Text;
+use call_lines::call;
+use call_lines::call::Call;
+use call_lines::call::LONGEST;
+use call_lines::text;
+use call_lines::text::Text;
 use vlr::Kind;
 use vlr::Outcome;
 use vlr::Reply;

@@ -26,7 +26,7 @@ unfolding sets isEdition isSet
 few edition keys admitted =
     let both = and-eq-true-iff (isEdition edition) (isSet (keys .set)) .0 admitted in
     let within = and-eq-true-iff (leb 1 edition) (leb edition (length table)) .0 (both .0) in
-    record { edition = omega (arith, leb-true edition 2 (within .1)); set = omega (arith, leb-true (keys .set) 1 (both .1)) }
+    record { edition = omega (arith, leb-true edition (length table) (within .1)); set = omega (arith, leb-true (keys .set) 1 (both .1)) }
 
 -- and the edition is a known one
 pub known-edition : (edition : ℕ) (keys : Keys) → sets .admits edition keys ≡ true → isEdition edition ≡ true

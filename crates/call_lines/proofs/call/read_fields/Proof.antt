@@ -3,8 +3,8 @@ use mathlib.Core.Path.{_≡_}
 use Prim.Native.Nat.{_-_}
 use lib.ListN.{length}
 use borrow.Author.Needs.{needs}
-use Rattle.calls.proofs.call.read_fields.Statement.{statement}
-use Rattle.calls.proofs.call.read_fields.Tie as tie
+use Rattle.call_lines.proofs.call.read_fields.Statement.{statement}
+use Rattle.call_lines.proofs.call.read_fields.Tie as tie
 
 abbrev Inv-loop : tie.InvT-loop
 Inv-loop form line store₀ c₀ i₀ store c i = length store ≡ length store₀

@@ -2,8 +2,8 @@
 use Prim.Native.Nat.{_-_, _≤_, _+_}
 use lib.ListN.{length}
 use borrow.Author.Needs.{needs}
-use Rattle.calls.proofs.call.find_word.Statement.{statement}
-use Rattle.calls.proofs.call.find_word.Tie as tie
+use Rattle.call_lines.proofs.call.find_word.Statement.{statement}
+use Rattle.call_lines.proofs.call.find_word.Tie as tie
 
 abbrev Inv-loop : tie.InvT-loop
 Inv-loop words word number₀ at₀ number at = (number ≤ at) × (at ≤ length words + 1)

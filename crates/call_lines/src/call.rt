@@ -2,7 +2,7 @@
 use fields::Number;
 use functions::Keys;
 ghost use Prim.Native.Nat.{_<_, _≤_};
-ghost use Rattle.calls.specs.Limits.{longest, mostFields, mostLent};
+ghost use Rattle.call_lines.specs.Limits.{longest, mostFields, mostLent};
 
 // The bytes of the longest line that is answered.
 pub const LONGEST: usize = 4096;
