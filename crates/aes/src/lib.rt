@@ -3,6 +3,8 @@
 // The state is four words, its columns, and a round is sixteen look-ups in one table. Table and key schedule are made once,
 // by `aes_tables::round_table` and `aes_schedule::key_expansion`, and lent for each block. `w` is the standard's letter for the key
 // schedule.
+#![tactic(auto)]
+
 ghost use Rattle.std.specs.Prelude.{◌≡◌, [], ◌∷◌, ◌≤◌};
 ghost use Rattle.octets.specs.Octets.{xor, encode};
 ghost use Rattle.aes_tables.specs.Sbox.{sbox};

@@ -1,4 +1,6 @@
 // The key expansion of AES-128, FIPS 197: a round key at a time, once for a key. `w` is the standard's letter for the key schedule.
+#![tactic(auto)]
+
 ghost use Rattle.std.specs.Prelude.{◌≡◌, [], ◌∷◌, ◌≤◌};
 ghost use Rattle.std.specs.Int.Bits.{bit_xor};
 ghost use Rattle.octets.specs.Octets.{decode};

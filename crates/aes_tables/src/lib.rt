@@ -1,6 +1,8 @@
 // The two constant tables of AES: the S-box of FIPS 197, and the round table made from it.
 //
 // A constant is laid down anew wherever it is read, so a table is taken once, near the top of a call, and lent from there.
+#![tactic(auto)]
+
 ghost use Rattle.aes_tables.specs.Sbox.{IsSbox};
 ghost use Rattle.aes_tables.specs.RoundTable.{IsRoundTable};
 

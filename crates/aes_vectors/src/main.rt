@@ -1,5 +1,7 @@
 // AES-128 of vectors: each line of the standard input is `KEY PLAINTEXT` in lower-case hex, and its answer is the ciphertext, or `bad
 // line`.
+#![tactic(auto)]
+
 ghost use Rattle.std.specs.Prelude.{ℕ, ◌*◌, ◌≤◌, ◌<◌, List, ◌≡◌, length, take};
 ghost use Rattle.aes_tables.specs.RoundTable.{IsRoundTable};
 ghost use Rattle.aes.specs.Cipher.{aes};

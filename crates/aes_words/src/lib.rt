@@ -1,4 +1,6 @@
 // Words of four octets, the first the most significant, and blocks of four words.
+#![tactic(auto)]
+
 ghost use Rattle.std.specs.Prelude.{◌≡◌, [], ◌∷◌};
 ghost use Rattle.octets.specs.Octets.{turn_left, xor as xor_octets, encode};
 ghost use Rattle.aes_words.specs.Words.{octet};

@@ -1,5 +1,7 @@
 // Authentication and key agreement on paper: the definitions are in specs/, the theorems in proofs/. There is no code here but the numbers
 // that the code has from the definitions: this is their one home.
+#![tactic(auto)]
+
 
 // ---- sequence numbers (specs/Sequence)
 

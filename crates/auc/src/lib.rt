@@ -1,5 +1,7 @@
 // The authentication centre, AuC (document 01: centre): its orders and its resynchronisation. Its record is handed on from `auc_record`,
 // the vectors of a batch from `batches`.
+#![tactic(auto)]
+
 ghost use Rattle.std.specs.Prelude.{◌*◌, ◌≤◌, cond, ◌≡◌, length};
 ghost use Rattle.aes_tables.specs.RoundTable.{IsRoundTable};
 ghost use Rattle.functions.specs.Challenge.{keys_of, IsSchedule};

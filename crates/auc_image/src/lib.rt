@@ -1,5 +1,7 @@
 // The packed image of an AuC's record (document 01: centre), most significant bit first: edition and set in 4 bits each, K, OPc, AMF,
 // SEQ_HE and the next index.
+#![tactic(auto)]
+
 ghost use Rattle.std.specs.Prelude.{true, ◌++◌, ◌≡◌, length, take, drop};
 ghost use Rattle.octets.specs.Octets.{decode, encode, number, part};
 ghost use Rattle.functions.specs.Sets.{sets};

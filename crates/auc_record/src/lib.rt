@@ -1,5 +1,7 @@
 // The record of the authentication centre, AuC (document 01: centre), the refusals that order and resynchronisation share,
 // and the record that a batch leaves.
+#![tactic(auto)]
+
 mod pairs;
 
 ghost use Rattle.std.specs.Prelude.{◌+◌, ◌≤◌, ◌≡◌};

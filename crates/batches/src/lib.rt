@@ -1,4 +1,6 @@
 // Batches of authentication vectors: the vectors written one behind the other into lent octets, and one of them found again.
+#![tactic(auto)]
+
 mod vectors;
 
 ghost use Rattle.std.specs.Prelude.{◌+◌, ◌*◌, ◌≤◌, ◌<◌, ◌++◌, ◌≡◌, length, take, drop};

@@ -1,4 +1,6 @@
 // The bench: a card, a centre record and a node, driven by the lines of the standard input. Each line is answered by one line.
+#![tactic(auto)]
+
 ghost use Rattle.std.specs.Prelude.{ℕ, ◌*◌, ◌≤◌, ◌<◌, List, length};
 ghost use Rattle.console.specs.Turns.{AnsweredIf, Gives, Ran, standing_of};
 ghost use Rattle.bench_reader.specs.Commands.{longest};

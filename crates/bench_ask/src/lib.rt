@@ -1,4 +1,6 @@
 // An ask at the desk: the node's Ask, the card's challenge, then what the verdict asks for.
+#![tactic(auto)]
+
 mod reports;
 
 ghost use Rattle.std.specs.Prelude.{◌≡◌};

@@ -1,4 +1,6 @@
 // The bench line by line (document 01: 'The bench program').
+#![tactic(auto)]
+
 ghost use Rattle.std.specs.Prelude.{true, false, ◌||◌, ◌⊎◌, ◌≡◌, ◌≤◌};
 ghost use Rattle.functions.specs.Challenge.{keys_of};
 ghost use Rattle.aka.specs.Layout.{most_vectors};

@@ -1,4 +1,6 @@
 // The desk: one card, one centre record, one node, and the last AUTS with its RAND.
+#![tactic(auto)]
+
 ghost use Rattle.std.specs.Prelude.{◌≡◌};
 ghost use Rattle.functions.specs.Challenge.{keys_of};
 ghost use Rattle.aka.specs.Vlr.{refusal_of};

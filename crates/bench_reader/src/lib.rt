@@ -1,4 +1,6 @@
 // The lines of the bench: what they can ask for, and how any line is read.
+#![tactic(auto)]
+
 mod batch_form;
 mod key_form;
 mod put_form;

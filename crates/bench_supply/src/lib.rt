@@ -1,4 +1,6 @@
 // Order and resync at the desk: a batch of the centre goes to the node.
+#![tactic(auto)]
+
 ghost use Rattle.std.specs.Prelude.{◌≡◌};
 ghost use Rattle.octets.specs.Octets.{Octets};
 ghost use Rattle.functions.specs.Sets.{sets};

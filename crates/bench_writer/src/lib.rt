@@ -1,4 +1,6 @@
 // The answers of the bench: what they can be, and how they are written.
+#![tactic(auto)]
+
 mod parts;
 mod texts;
 

@@ -1,4 +1,6 @@
 // The public calls, one a line: a word, then fields with one space between. docs/CALLS.md has the words.
+#![tactic(auto)]
+
 mod auc_calls;
 mod handset_calls;
 mod usim_calls;

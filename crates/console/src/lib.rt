@@ -1,6 +1,8 @@
 // What programs that answer lines share: one piece of the input at a time, a buffer for the line, and one in which answers wait until
 // they are written out. A program's loop is `advance`, then its own answer where the line is whole, until `is_ended`. All that no
 // contract can say lies in `write_due` and `fetch`: what a read brought, whether a write arrived, and that it was of the bytes due.
+#![tactic(auto)]
+
 ghost use Rattle.std.specs.Prelude.{ℕ, min, ◌/◌, Bool, true, false, ◌&&◌, ◌||◌, not, cond, List, ◌≡◌, eqb, ltb, length, take, drop};
 ghost use Rattle.io.specs.Counts.{IsPrefixLen};
 ghost use Rattle.console.specs.Buffers.{appended, buffer_of};

@@ -1,5 +1,7 @@
 // The editions of card and centre records (document 02, #104), as aka/specs/Editions has them: the one table of what differs from edition
 // to edition. No other code tests an edition.
+#![tactic(auto)]
+
 ghost use Rattle.std.specs.Prelude.{◌+◌, ◌%◌, ◌≤◌, ◌<◌, cond, ◌≡◌};
 ghost use Rattle.aka.specs.Sequence.{width_of, indices, limit, sqn_of};
 ghost use Rattle.aka.specs.Editions.{editions, is_edition};

@@ -1,4 +1,6 @@
 // The fields of a line: words, decimal numbers, octets in hex.
+#![tactic(auto)]
+
 ghost use Rattle.std.specs.Prelude.{◌≡◌, ◌≤◌, false, cond, length};
 ghost use Rattle.fields.specs.Fields.{begins as begins_with, decimal, end_of, is_decimal, is_hex_field, read_field_into};
 

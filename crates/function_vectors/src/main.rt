@@ -1,5 +1,7 @@
 // The functions f1 to f5* of vectors: each line of the standard input is `SET K OPC RAND SQN AMF`, one digit and then lower-case hex, and
 // its answer is `MAC MACS RES CK IK AK AKS`, `refused 1` for a set that is not known, or `bad line`.
+#![tactic(auto)]
+
 ghost use Rattle.std.specs.Prelude.{ℕ, ◌+◌, ◌-◌, ◌*◌, ◌≤◌, ◌<◌, true, List, [], ◌∷◌, ◌++◌, ◌≡◌, get_or, length, take};
 ghost use Rattle.octets.specs.Ascii.{ascii};
 ghost use Rattle.octets.specs.Octets.{zeros};

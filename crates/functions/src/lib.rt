@@ -2,6 +2,8 @@
 // takes. The round table of AES is lent throughout.
 //
 // A set above 1 is the caller's to refuse; here it counts as MILENAGE.
+#![tactic(auto)]
+
 ghost use Rattle.std.specs.Prelude.{◌≡◌};
 ghost use Rattle.aes_tables.specs.RoundTable.{IsRoundTable};
 ghost use Rattle.functions.specs.Sets.{is_set, sets};

@@ -1,4 +1,6 @@
 // The field of 256 elements of FIPS 197, section 4.
+#![tactic(auto)]
+
 ghost use Rattle.std.specs.Prelude.{◌≡◌};
 ghost use Rattle.gf256.specs.Field.{xtime, times};
 

@@ -1,5 +1,7 @@
 // The handset (document 02, #101): its answer to a challenge, from the store if RAND is repeated and else from the card. It takes three
 // calls: `answer` reads the store and writes the fresh octets, `shown` shows the answer, `keep` writes the store. `clear` empties a store.
+#![tactic(auto)]
+
 ghost use Rattle.std.specs.Prelude.{◌≡◌, length};
 ghost use Rattle.octets.specs.Octets.{Octets};
 ghost use Rattle.functions.specs.Sets.{sets};

@@ -1,5 +1,7 @@
 // The store in which a handset keeps its last answer (document 02, #101): the answer shown from it, kept in it, cleared from it. Voice and
 // data have a store each, and a call works on the one that it is lent: its mark, and its octets, RAND and behind it the answer.
+#![tactic(auto)]
+
 ghost use Rattle.std.specs.Prelude.{◌≤◌, ◌&&◌, ◌≡◌, eqb, length};
 ghost use Rattle.aka.specs.Layout.{rand_size, answer_size, store_size};
 ghost use Rattle.aka.specs.Handset as spec;

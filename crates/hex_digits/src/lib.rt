@@ -1,4 +1,6 @@
 // Octets as lower-case hex text.
+#![tactic(auto)]
+
 ghost use Rattle.std.specs.Prelude.{◌*◌, ◌<◌, true, ◌≡◌, length};
 ghost use Rattle.hex_digits.specs.Hex.{all_hex_digits, glyph as glyph_of, has_room, hex, is_hex, is_hex_digit};
 ghost use Rattle.hex_digits.specs.Hex.{read_into, unhex, value as value_of, written_into};

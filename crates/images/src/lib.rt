@@ -1,5 +1,7 @@
 // What the packed images of USIM and AuC share: the head, edition and set in 4 bits each, K and OPc. What writing and reading an image
 // answer is said once for both in specs/Images, and proofs/RoundTrips shows once that each gives back what the other took.
+#![tactic(auto)]
+
 ghost use Rattle.std.specs.Prelude.{true, ◌++◌, ◌≡◌, ◌+◌, ◌<◌, ◌≤◌, length, take, drop};
 ghost use Rattle.functions.specs.Challenge.{keys_of};
 ghost use Rattle.functions.specs.Sets.{sets};

@@ -1,5 +1,7 @@
 // MILENAGE of 3GPP TS 35.206 on blocks of four words. The round table and the key schedule are lent; TEMP is computed once for
 // a RAND and handed to each output.
+#![tactic(auto)]
+
 mod blocks;
 pub mod opc;
 

@@ -1,5 +1,7 @@
 // Octet strings. The definitions are in specs/, the laws that every layer shares in proofs/, and here are the few functions on
 // octets that several layers call.
+#![tactic(auto)]
+
 ghost use Rattle.std.specs.Prelude.{◌++◌, ◌≡◌, ◌+◌, ◌≤◌, length, take, drop};
 ghost use Rattle.octets.specs.Octets.{part, xor, equal as equal_to};
 
@@ -33,13 +35,23 @@ pub fn equal_without_early_end(x: &[u8], y: &[u8]) -> bool
     differences == 0
 }
 
+// Copies octets over the front of a buffer that has room for them, and returns how many they are.
+pub fn copy(from: &[u8], to: &mut [u8]) -> usize
+    requires { length from.now ≤ length to.old }
+    ensures count { result ≡ length from.now }
+    ensures octets { to.new ≡ from.now ++ drop (length from.now) to.old }
+{
+    to[..from.len()].copy_from_slice(from);
+    from.len()
+}
+
 // Puts `part` into a buffer, from `at` on. What stands before and behind stays.
 pub fn put(buffer: &mut [u8], at: usize, part: &[u8])
     requires { at + length part.now ≤ length buffer.old }
     ensures { buffer.new
         ≡ take at buffer.old ++ part.now ++ drop (at + length part.now) buffer.old }
 {
-    bytes::copy(part, &mut buffer[at..]);
+    copy(part, &mut buffer[at..]);
 }
 
 // 16 lent octets.
@@ -48,7 +60,7 @@ pub fn sixteen(s: &[u8]) -> [u8; 16]
     ensures { result ≡ s.now }
 {
     let mut taken = [0u8; 16];
-    bytes::copy(s, &mut taken);
+    copy(s, &mut taken);
     taken
 }
 
@@ -58,7 +70,7 @@ pub fn fourteen(s: &[u8]) -> [u8; 14]
     ensures { result ≡ s.now }
 {
     let mut taken = [0u8; 14];
-    bytes::copy(s, &mut taken);
+    copy(s, &mut taken);
     taken
 }
 
@@ -68,7 +80,7 @@ pub fn eight(x: [u8; 16], at: usize) -> [u8; 8]
     ensures { result ≡ part at 8 x }
 {
     let mut taken = [0u8; 8];
-    bytes::copy(&x[at..at + 8], &mut taken);
+    copy(&x[at..at + 8], &mut taken);
     taken
 }
 
@@ -78,7 +90,7 @@ pub fn six(x: [u8; 16], at: usize) -> [u8; 6]
     ensures { result ≡ part at 6 x }
 {
     let mut taken = [0u8; 6];
-    bytes::copy(&x[at..at + 6], &mut taken);
+    copy(&x[at..at + 6], &mut taken);
     taken
 }
 

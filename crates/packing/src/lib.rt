@@ -2,6 +2,8 @@
 // through a word of eight octets, one word a number.
 //
 // Nothing is refused here: widths and lengths are the callers' constants, and the numbers of a valid record are within their width.
+#![tactic(auto)]
+
 ghost use Rattle.std.specs.Prelude.{◌*◌, ◌+◌, ◌-◌, ◌/◌, ◌%◌, ◌<◌, ◌^◌, ◌≤◌, ◌++◌, ◌≡◌, length, take, drop};
 ghost use Rattle.octets.specs.Octets.{Below, zeros, encode, decode};
 ghost use Rattle.packing.specs.Packing.{unpacked, packed};

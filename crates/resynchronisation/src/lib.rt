@@ -1,5 +1,7 @@
 // What the AUTS of a synchronisation failure says to the authentication centre, AuC (document 01: centre): SQN_MS, whether MAC-S is right,
 // and whether SEQ_HE is kept or reset.
+#![tactic(auto)]
+
 ghost use Rattle.std.specs.Prelude.{◌≤◌, ◌<◌, ◌^◌, ◌≡◌};
 ghost use Rattle.octets.specs.Octets.{Octets};
 ghost use Rattle.aes_tables.specs.RoundTable.{IsRoundTable};

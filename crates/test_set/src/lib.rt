@@ -1,4 +1,6 @@
 // Set 0, of X.
+#![tactic(auto)]
+
 ghost use Rattle.std.specs.Prelude.{◌≡◌, ◌≤◌, ◌++◌, take};
 ghost use Rattle.octets.specs.Octets.{xor, turn_left};
 ghost use Rattle.aes_words.specs.Block.{octets_of};

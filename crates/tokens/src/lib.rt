@@ -1,4 +1,6 @@
 // The octets of AUTN and AUTS, and the SQN in them: what USIM and AuC share.
+#![tactic(auto)]
+
 ghost use Rattle.std.specs.Prelude.{◌≡◌, ◌<◌};
 ghost use Rattle.octets.specs.Octets.{xor, equal, encode, decode};
 ghost use Rattle.aka.specs.Layout.{sqn_size, read_autn, write_autn, read_auts, write_auts};

@@ -1,4 +1,6 @@
 // Triplets for GSM phones, made at the centre of a batch of vectors (TS 33.102 §6.8.1.2; document 02, #102).
+#![tactic(auto)]
+
 ghost use Rattle.std.specs.Prelude.{◌*◌, ◌≤◌, ◌≡◌, length};
 ghost use Rattle.aka.specs.Layout.{most_vectors, read_vector, triplet_size, vector_size, write_triplet};
 ghost use Rattle.octets.specs.Octets.{xor};

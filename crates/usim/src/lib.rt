@@ -1,4 +1,6 @@
 // The USIM (document 01: card): its answer to a challenge. Its record is handed on from `usim_record`.
+#![tactic(auto)]
+
 ghost use Rattle.std.specs.Prelude.{true, ◌≡◌};
 ghost use Rattle.octets.specs.Octets.{Octets, encode};
 ghost use Rattle.aes_tables.specs.RoundTable.{IsRoundTable};

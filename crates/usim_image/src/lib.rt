@@ -1,5 +1,7 @@
 // The packed image of a USIM (document 01: card), most significant bit first: edition and set in 4 bits each, K, OPc, and the places by
 // index.
+#![tactic(auto)]
+
 ghost use Rattle.std.specs.Prelude.{◌+◌, ◌-◌, ◌^◌, ◌≤◌, true, ◌++◌, ◌≡◌, length, take, drop};
 ghost use Rattle.octets.specs.Octets.{Below, zeros, decode, digits, encode, number};
 ghost use Rattle.functions.specs.Sets.{sets};

@@ -1,4 +1,6 @@
 // The record of the USIM (document 01: card), its places, and its answers that change nothing.
+#![tactic(auto)]
+
 ghost use Rattle.std.specs.Prelude.{◌≡◌};
 ghost use Rattle.functions.specs.Challenge.{keys_of};
 ghost use Rattle.functions.specs.Sets.{sets};

@@ -1,6 +1,8 @@
 // The C interface: the calls that programs in C and Rust link (include/vetrhoss.h). Records are lent as their packed images; an image is
 // read first, and what its reading refuses is the call's answer. A call returns one number: the low 8 bits are 0, a refusal's number or a
 // failure's cause, and the rest is the value that goes with it.
+#![tactic(auto)]
+
 ghost use Rattle.std.specs.Prelude.{◌≡◌};
 ghost use Rattle.vetrhoss.specs.Interface.{opc_call, new_usim_call, new_auc_call, challenge_call, order_call, resync_call};
 ghost use Rattle.vetrhoss.specs.Interface.{vector_at_call, triplets_call};

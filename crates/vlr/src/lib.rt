@@ -1,4 +1,6 @@
 // The serving node, VLR or SGSN (document 01: node): its answer to each of its operations. Its record is handed on from `vlr_record`.
+#![tactic(auto)]
+
 ghost use Rattle.std.specs.Prelude.{◌≡◌};
 ghost use Rattle.aka.specs.Vlr as spec;
 ghost use Rattle.vlr_places.specs.Views.{kind_of};

@@ -1,5 +1,7 @@
 // One place of the serving node (document 01: node place), and what its run gives: the octet of its kind, then a vector, or a triplet and
 // zeros behind it.
+#![tactic(auto)]
+
 ghost use Rattle.std.specs.Prelude.{cond, ◌≡◌, ◌*◌, ◌+◌, ◌≤◌, length};
 ghost use Rattle.octets.specs.Octets.{equal, part, zeros};
 ghost use Rattle.aka.specs.Layout.{item_size, kind_octet};

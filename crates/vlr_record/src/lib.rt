@@ -1,4 +1,6 @@
 // The record of the serving node, VLR or SGSN (document 01: node), the tests on it, and the octets in it.
+#![tactic(auto)]
+
 pub mod queue;
 
 ghost use Rattle.std.specs.Prelude.{◌≡◌, ◌+◌, leb};

@@ -1,4 +1,6 @@
 // Which refusal applies to each operation of the serving node, VLR or SGSN (document 01: node).
+#![tactic(auto)]
+
 ghost use Rattle.std.specs.Prelude.{◌&&◌, ◌≡◌, ◌*◌, ◌<◌, eqb};
 ghost use Rattle.aka.specs.Vlr as spec;
 ghost use Rattle.vlr_places.specs.Views.{kind_of};

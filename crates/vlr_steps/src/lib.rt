@@ -1,4 +1,6 @@
 // The steps of the serving node, VLR or SGSN (document 01: node): the records that follow an operation, and the answers made of them.
+#![tactic(auto)]
+
 ghost use Rattle.std.specs.Prelude.{◌≡◌, ◌*◌, ◌+◌, ◌<◌, ◌≤◌, length};
 ghost use Rattle.aka.specs.Layout.{auts_size, item_size};
 ghost use Rattle.aka.specs.Vlr as spec;
