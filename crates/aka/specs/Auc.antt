@@ -162,8 +162,8 @@ pub record AucAnswer : Type 0 where
 
 -- refusal 4 applies where there is a pair
 abbrev pub unless_repeated : Pair → (rest : Outcome) → Outcome
-unless_repeated unequal rest = rest
-unless_repeated (equal_at i j) rest = repeated i j
+unless_repeated unequal other = other
+unless_repeated (equal_at i j) other = repeated i j
 
 -- 16n octets of RANDs and 72n octets to fill, by their lengths
 unfoldable pub lent_for : (n rands buffer : ℕ) → Bool

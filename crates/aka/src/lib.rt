@@ -2,7 +2,6 @@
 // that the code has from the definitions: this is their one home.
 #![tactic(auto)]
 
-
 // ---- sequence numbers (specs/Sequence)
 
 // The largest jump.

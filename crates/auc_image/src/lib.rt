@@ -44,7 +44,7 @@ fn put_amf(image: &mut [u8], amf: [u8; aka::AMF_SIZE])
     requires { length image.old ≡ image_size }
     ensures { image.new ≡ take amf_at image.old ++ amf ++ drop counters_at image.old }
 {
-    bytes::copy(&amf, &mut image[AMF_AT..]);
+    octets::copy(&amf, &mut image[AMF_AT..]);
 }
 
 // Puts the last six octets into an image. What stands before stays.
@@ -52,7 +52,7 @@ fn put_counters(image: &mut [u8], counters: [u8; aka::SQN_SIZE])
     requires { length image.old ≡ image_size }
     ensures { image.new ≡ take counters_at image.old ++ counters ++ drop image_size image.old }
 {
-    bytes::copy(&counters, &mut image[COUNTERS_AT..]);
+    octets::copy(&counters, &mut image[COUNTERS_AT..]);
 }
 
 // Fills an image with a valid record.

@@ -9,7 +9,7 @@ pub fn put(out: &mut [u8], at: usize, text: &[u8]) -> usize
     requires { at + length text.now ≤ length out.old }
     ensures { Placed out.old at text.now out.new result }
 {
-    at + bytes::copy(text, &mut out[at..])
+    at + octets::copy(text, &mut out[at..])
 }
 
 pub fn put_number(out: &mut [u8], at: usize, n: u64) -> usize

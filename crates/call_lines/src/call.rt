@@ -293,7 +293,7 @@ pub fn part<'a>(c: Call, i: usize, store: &'a [u8]) -> &'a [u8]
 // Copies octets to the front of a buffer that has room for them.
 pub fn copy_front(octets: &[u8], buffer: &mut [u8]) {
     if octets.len() <= buffer.len() {
-        bytes::copy(octets, buffer);
+        octets::copy(octets, buffer);
     }
 }
 

@@ -38,7 +38,7 @@ pub fn append(buffer: &mut [u8], used: usize, part: &[u8]) -> usize
 {
     let from = smaller(used, buffer.len());
     let n = smaller(part.len(), buffer.len() - from);
-    from + bytes::copy(&part[..n], &mut buffer[from..])
+    from + octets::copy(&part[..n], &mut buffer[from..])
 }
 
 // How many bytes stand before the first newline; all, where there is none.

@@ -26,7 +26,7 @@ fn put_key(image: &mut [u8], at: usize, key: [u8; aka::KEY_SIZE])
     requires { at + key_size ≤ length image.old }
     ensures { image.new ≡ take at image.old ++ key ++ drop (at + key_size) image.old }
 {
-    bytes::copy(&key, &mut image[at..]);
+    octets::copy(&key, &mut image[at..]);
 }
 
 // Puts the head of a record into an image, whose edition admits its keys. What stands behind it stays.

@@ -29,5 +29,5 @@ pub fn fill(buffer: &mut [u8], octets: &[u8])
     requires { length octets.now ≡ length buffer.old }
     ensures { buffer.new ≡ octets.now }
 {
-    bytes::copy(octets, buffer);
+    octets::copy(octets, buffer);
 }

@@ -37,7 +37,7 @@ pub fn turned_left(x: [u8; 16], n: usize) -> [u8; 16]
     ensures { result ≡ turn_left n x }
 {
     let mut turned = [0u8; 16];
-    bytes::copy(&x[n..], &mut turned);
-    bytes::copy(&x[..n], &mut turned[16 - n..]);
+    octets::copy(&x[n..], &mut turned);
+    octets::copy(&x[..n], &mut turned[16 - n..]);
     turned
 }

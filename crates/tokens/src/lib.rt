@@ -142,6 +142,6 @@ pub fn mac_s_in(auts: [u8; aka::AUTS_SIZE]) -> [u8; aka::MAC_SIZE]
     ensures { result ≡ (read_auts auts).mac }
 {
     let mut mac = [0u8; aka::MAC_SIZE];
-    bytes::copy(&auts[aka::MAC_S_AT..], &mut mac);
+    octets::copy(&auts[aka::MAC_S_AT..], &mut mac);
     mac
 }

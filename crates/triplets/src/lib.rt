@@ -13,7 +13,7 @@ fn sres(vector: &[u8]) -> [u8; aka::SRES_SIZE]
     ensures { result ≡ sres_of (read_vector vector.now).xres }
 {
     let mut xres = [0u8; aka::RES_SIZE];
-    bytes::copy(&vector[aka::XRES_AT..aka::CK_AT], &mut xres);
+    octets::copy(&vector[aka::XRES_AT..aka::CK_AT], &mut xres);
     [
         xres[0] ^ xres[4],
         xres[1] ^ xres[5],

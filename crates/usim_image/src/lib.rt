@@ -53,7 +53,7 @@ fn put_places(image: &mut [u8], edition: u8, places: [u64; editions::PLACES])
     let m = editions::row(edition);
     let mut room = [0u8; ROOM];
     packing::pack(&places[..m.indices as usize], m.bits, &mut room);
-    bytes::copy(&room[..m.octets], &mut image[PLACES_AT..]);
+    octets::copy(&room[..m.octets], &mut image[PLACES_AT..]);
 }
 
 // Fills an image with a valid record.

@@ -147,7 +147,7 @@ pub fn kc(place: [u8; aka::PLACE_SIZE]) -> [u8; aka::KC_SIZE]
     if has_vector(place) {
         return kc;
     }
-    bytes::copy(
+    octets::copy(
         &place[aka::KIND_SIZE + aka::KC_AT..aka::KIND_SIZE + aka::TRIPLET_SIZE],
         &mut kc,
     );

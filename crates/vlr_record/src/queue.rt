@@ -37,7 +37,7 @@ pub fn oldest(queue: [u8; aka::QUEUE_SIZE]) -> [u8; aka::PLACE_SIZE]
     ensures { result ≡ take place_size queue }
 {
     let mut place = [0u8; aka::PLACE_SIZE];
-    bytes::copy(&queue[0..aka::PLACE_SIZE], &mut place);
+    octets::copy(&queue[0..aka::PLACE_SIZE], &mut place);
     place
 }
 
@@ -46,7 +46,7 @@ pub fn without_oldest(queue: [u8; aka::QUEUE_SIZE]) -> [u8; aka::QUEUE_SIZE]
     ensures { result ≡ drop place_size queue ++ zeros place_size }
 {
     let mut next = [0u8; aka::QUEUE_SIZE];
-    bytes::copy(&queue[aka::PLACE_SIZE..], &mut next);
+    octets::copy(&queue[aka::PLACE_SIZE..], &mut next);
     next
 }
 
