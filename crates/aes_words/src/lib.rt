@@ -7,7 +7,7 @@ ghost use Rattle.aes_words.specs.Words.{octet};
 ghost use Rattle.aes_words.specs.Block.{octets_of};
 
 // 16 octets, as the words of a state's columns.
-#[derive(Drop)]
+#[derive(Clone, Copy, Drop)]
 pub struct Block {
     pub a: u32,
     pub b: u32,
