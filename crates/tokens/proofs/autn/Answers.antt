@@ -1,0 +1,14 @@
+-- `autn` is the layout of AUTN.
+use Rattle.std.proofs.Common.{◌++◌, ap₂, ◌∙◌}
+use Rattle.octets.specs.Octets.{Octets}
+use Rattle.octets.proofs.Strings.{listed_all}
+use Rattle.aka.specs.Layout.{sqn_size, amf_size, mac_size, write_autn}
+use Rattle.tokens.proofs.autn.Goals as goal
+
+pub returns : goal.returns
+unfolding write_autn
+returns c =
+    ap₂ (λ (x y : Octets). x ++ y)
+    (listed_all c.xor6-concealed.result sqn_size c.xor6-concealed.type_inv.1.0.1 ∙ c.xor6-concealed.ensures)
+    (ap₂ (λ (x y : Octets). x ++ y)
+    (listed_all c.args.amf amf_size c.well_formed.1.1.0.1.0.1) (listed_all c.args.mac mac_size c.well_formed.1.1.1.0.1.0.1))
