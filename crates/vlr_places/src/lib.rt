@@ -11,7 +11,7 @@ ghost use Rattle.vlr_places.specs.Views.{kind_of};
 // ---- the kinds
 
 // What a place holds: an authentication vector, or a triplet for a GSM phone.
-#[derive(Drop)]
+#[derive(Clone, Copy, Drop)]
 pub enum Kind {
     Vector,
     Triplet,
@@ -58,6 +58,7 @@ pub fn all_zero(x: &[u8]) -> bool
 }
 
 // Whether a place in use is as it should be: kind 0 or 1, and zeros behind a triplet.
+#[tactic(auto, using(crate::proofs::Items::good_vector, crate::proofs::Items::bad_kind))]
 pub fn is_good(place: &[u8]) -> bool
     requires { length place.now ≡ place_size }
     ensures { result ≡ good_place place.now }
@@ -116,24 +117,28 @@ fn of_vector(place: [u8; aka::PLACE_SIZE], at: usize) -> [u8; 16]
 }
 
 // It stands first in either item.
+#[tactic(auto, using(crate::proofs::Items::rand_is))]
 pub fn rand(place: [u8; aka::PLACE_SIZE]) -> [u8; aka::RAND_SIZE]
     ensures { result ≡ (run_in place).rand }
 {
     sixteen(place, aka::KIND_SIZE)
 }
 
+#[tactic(auto, using(crate::proofs::Items::autn_is))]
 pub fn autn(place: [u8; aka::PLACE_SIZE]) -> [u8; aka::AUTN_SIZE]
     ensures { result ≡ (run_in place).autn }
 {
     of_vector(place, aka::KIND_SIZE + aka::AUTN_AT)
 }
 
+#[tactic(auto, using(crate::proofs::Items::ck_is))]
 pub fn ck(place: [u8; aka::PLACE_SIZE]) -> [u8; aka::CK_SIZE]
     ensures { result ≡ (run_in place).ck }
 {
     of_vector(place, aka::KIND_SIZE + aka::CK_AT)
 }
 
+#[tactic(auto, using(crate::proofs::Items::ik_is))]
 pub fn ik(place: [u8; aka::PLACE_SIZE]) -> [u8; aka::IK_SIZE]
     ensures { result ≡ (run_in place).ik }
 {
@@ -165,6 +170,7 @@ pub fn response_size(place: [u8; aka::PLACE_SIZE]) -> usize
 }
 
 // Whether a response passes. XRES and SRES stand at one place of their items.
+#[tactic(auto, using(crate::proofs::Items::response_is))]
 pub fn is_response(place: [u8; aka::PLACE_SIZE], res: &[u8]) -> bool
     requires { length res.now ≡ res_size_of (kind_in place) }
     ensures { result ≡ equal res.now (run_in place).response }
