@@ -17,7 +17,7 @@ pub const PLACES: usize = 64;
 pub const MOST_OCTETS: usize = 336;
 
 // How the records of an edition are numbered.
-#[derive(Drop)]
+#[derive(Clone, Copy, Drop)]
 pub struct Numbering {
     // How many indices there are: SQN = indices x SEQ + IND.
     pub indices: u64,
