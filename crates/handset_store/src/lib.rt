@@ -58,6 +58,7 @@ pub fn lengths_right(stored: usize, rand: usize, fresh: usize) -> bool
 }
 
 // Whether the store holds this RAND.
+#[tactic(auto, unfolding(aka::specs::Handset::repeats))]
 pub fn repeats(held: bool, stored: &[u8], rand: &[u8]) -> bool
     requires { (rand_size ≤ length stored.now) × (length rand.now ≡ rand_size) }
     ensures { result ≡ spec.repeats (store_of held stored.now) rand.now }
@@ -92,6 +93,7 @@ fn source_of(outcome: Outcome, same: bool) -> Source
 }
 
 // Where the answer lies; nowhere, where a length is wrong.
+#[tactic(auto, using(aka::proofs::Handset::parts_known), unfolding(aka::specs::Handset::source, aka::specs::Handset::parts_right))]
 fn find_source(outcome: Outcome, held: bool, stored: &[u8], rand: &[u8], fresh: &[u8]) -> Source
     ensures { source_in result ≡ spec.source (outcome_of outcome) (store_of held stored.now) rand.now fresh.now }
 {
@@ -124,6 +126,7 @@ pub fn shown<'a>(
 }
 
 // The last of three calls: an acceptance is kept, RAND and behind it the answer. Any other outcome leaves the store as it was.
+#[tactic(auto, using(aka::proofs::Handset::parts_known), unfolding(aka::specs::Handset::keep, aka::specs::Handset::parts_right))]
 pub fn keep(outcome: Outcome, held: bool, stored: &mut [u8], rand: &[u8], fresh: &[u8]) -> Written
     ensures { written_of result stored.new
         ≡ spec.keep (outcome_of outcome) (store_of held stored.old) rand.now fresh.now }
@@ -143,6 +146,7 @@ pub fn keep(outcome: Outcome, held: bool, stored: &mut [u8], rand: &[u8], fresh:
 }
 
 // The security mode command came, or the connection was lost: nothing is held, and all octets are zero.
+#[tactic(auto, using(octets::proofs::PartByPart::put_whole), unfolding(aka::specs::Handset::clear))]
 pub fn clear(held: bool, stored: &mut [u8]) -> Written
     ensures { written_of result stored.new ≡ spec.clear (store_of held stored.old) }
 {
