@@ -6,6 +6,7 @@ ghost use Rattle.hex_digits.specs.Hex.{all_hex_digits, glyph as glyph_of, has_ro
 ghost use Rattle.hex_digits.specs.Hex.{read_into, unhex, value as value_of, written_into};
 
 // Whether `c` is a lower-case hex digit.
+#[tactic(auto, unfolding(crate::specs::Hex::is_hex_digit))]
 fn is_hex_digit(c: u8) -> bool
     ensures { result ≡ is_hex_digit c }
 {
@@ -19,6 +20,7 @@ fn is_hex_digit(c: u8) -> bool
 }
 
 // The digit that `c` stands for.
+#[tactic(auto, using(crate::proofs::HexLaws::digit_range), unfolding(crate::specs::Hex::value))]
 fn value(c: u8) -> u8
     requires { is_hex_digit c ≡ true }
     ensures value { result ≡ value_of c }
@@ -31,6 +33,7 @@ fn value(c: u8) -> u8
 }
 
 // The character of the digit `d`.
+#[tactic(auto, unfolding(crate::specs::Hex::glyph))]
 fn glyph(d: u8) -> u8
     requires { d < 16 }
     ensures { result ≡ glyph_of d }
@@ -71,6 +74,7 @@ fn decode(text: &[u8], out: &mut [u8])
 }
 
 // Reads `out` from `text`. Whether `text` is the hex of as many octets as `out` has; where it is not, `out` is as it was.
+#[tactic(auto, unfolding(crate::specs::Hex::is_hex, crate::specs::Hex::read_into))]
 pub fn read(text: &[u8], out: &mut [u8]) -> bool
     ensures answer { result ≡ is_hex (length out.old) text.now }
     ensures octets { out.new ≡ read_into out.old text.now }
@@ -100,6 +104,7 @@ fn encode(octets: &[u8], out: &mut [u8])
 }
 
 // Writes `octets` to `out` as hex. Whether `out` is twice as long; where it is not, it is as it was.
+#[tactic(auto, unfolding(crate::specs::Hex::has_room, crate::specs::Hex::written_into))]
 pub fn write(octets: &[u8], out: &mut [u8]) -> bool
     ensures answer { result ≡ has_room octets.now out.old }
     ensures text { out.new ≡ written_into out.old octets.now }
