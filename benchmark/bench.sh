@@ -6,7 +6,7 @@ cd "$(dirname "$0")/.."
 lines=${1:-100000}
 rounds=${2:-7}
 
-rt check bench >&2
+(cd crates/bench && rt run < /dev/null) >&2
 cargo build --quiet --release --offline --manifest-path reference/Cargo.toml
 second=${CARGO_TARGET_DIR:-reference/target}/release/reference
 work=$(mktemp -d)
@@ -15,7 +15,7 @@ trap 'rm -rf "$work"' EXIT
 
 TIMEFORMAT=%U
 for _ in $(seq "$rounds"); do
-    { time target/bin/bench < "$work/load" > "$work/ours"; } 2>> "$work/ours.times"
+    { time crates/bench/out/bench < "$work/load" > "$work/ours"; } 2>> "$work/ours.times"
     { time "$second" bench < "$work/load" > "$work/theirs"; } 2>> "$work/theirs.times"
     cmp "$work/ours" "$work/theirs"
 done

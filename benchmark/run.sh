@@ -16,7 +16,7 @@ set -euo pipefail
 cd "$(dirname "$0")/.."
 rounds=${1:-9}
 
-rt staticlib vetrhoss >&2
+(cd crates/vetrhoss && rt lib) >&2
 work=$(mktemp -d)
 trap 'rm -rf "$work"' EXIT
 

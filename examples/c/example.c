@@ -2,8 +2,8 @@
  * A card of edition 2 is issued, challenged, brought out of step and resynchronised; a vector comes late, and the vectors are made
  * triplets too. Build and run, from the repository's root:
  *
- *     rt staticlib vetrhoss
- *     cc -std=c99 -Iinclude -o target/example examples/c/example.c target/staticlib/libvetrhoss.a && target/example
+ *     (cd crates/vetrhoss && rt lib); mkdir -p target
+ *     cc -std=c99 -Iinclude -o target/example examples/c/example.c crates/vetrhoss/out/libvetrhoss.a && target/example
  *
  * K, OP, AMF and the first RAND are those of TS 35.208, test set 1, so that OPc, RES, CK and IK can be compared with the published
  * ones. In a network K and RAND come from a good source of random numbers, and images are kept in safe storage.

@@ -2,8 +2,8 @@
  * Each number that a call can give, brought about in each edition and looked for by its name in the header. Build and run, from the
  * repository's root:
  *
- *     rt staticlib vetrhoss
- *     cc -std=c99 -Iinclude -o target/numbers examples/c/numbers.c target/staticlib/libvetrhoss.a && target/numbers
+ *     (cd crates/vetrhoss && rt lib); mkdir -p target
+ *     cc -std=c99 -Iinclude -o target/numbers examples/c/numbers.c crates/vetrhoss/out/libvetrhoss.a && target/numbers
  *
  * The keys are of the test set, which has no secrecy.
  */

@@ -25,7 +25,7 @@ const MOST_FIELDS: usize = 80;
 // A call. `word` counts its word among those that are known, from 1; it is 0 where the line is no call of theirs. For each field there is
 // where the space before it stands, and its number or how many octets it has. The octets stand in the store from the place of that space.
 // The line is read up to `at`.
-#[derive(Drop)]
+#[derive(Clone, Copy, Drop)]
 pub struct Call {
     pub word: u64,
     pub starts: [usize; MOST_FIELDS],

@@ -14,9 +14,7 @@ use usim::Verdict;
 // OPc of K and OP.
 #[unsafe(no_mangle)]
 pub extern "C" fn vetrhoss_opc(k: &[u8], op: &[u8], opc: &mut [u8]) -> u64
-    ensures* { λ r. ⌜
-        record { result = r; octets = opc.new } ≡ opc_call k.now op.now opc.old
-        ⌝ }
+    ensures { record { result = result; octets = opc.new } ≡ opc_call k.now op.now opc.old }
 {
     if !buffers::are_keys(k, op) {
         return 3;
@@ -38,10 +36,8 @@ pub extern "C" fn vetrhoss_new_usim(
     opc: &[u8],
     image: &mut [u8],
 ) -> u64
-    ensures* { λ r. ⌜
-        record { result = r; octets = image.new }
-        ≡ new_usim_call edition set k.now opc.now image.old
-        ⌝ }
+    ensures { record { result = result; octets = image.new }
+        ≡ new_usim_call edition set k.now opc.now image.old }
 {
     if !editions::is_known(edition) {
         return 1;
@@ -66,10 +62,8 @@ pub extern "C" fn vetrhoss_new_auc(
     amf: &[u8],
     image: &mut [u8],
 ) -> u64
-    ensures* { λ r. ⌜
-        record { result = r; octets = image.new }
-        ≡ new_auc_call edition set k.now opc.now amf.now image.old
-        ⌝ }
+    ensures { record { result = result; octets = image.new }
+        ≡ new_auc_call edition set k.now opc.now amf.now image.old }
 {
     if !editions::is_known(edition) {
         return 1;
@@ -98,27 +92,25 @@ pub extern "C" fn vetrhoss_challenge(
     ik: &mut [u8],
     auts: &mut [u8],
 ) -> u64
-    ensures* { λ r. ⌜
-        record {
-          result = r;
-          octets = record {
-            image = image.exit.now;
-            res = res.new;
-            ck = ck.new;
-            ik = ik.new;
-            auts = auts.new;
-          };
-        }
+    ensures { record {
+      result = result;
+      octets = record {
+        image = image.new;
+        res = res.new;
+        ck = ck.new;
+        ik = ik.new;
+        auts = auts.new;
+      };
+    }
         ≡ challenge_call
         (record {
-          image = image.entry.now;
+          image = image.old;
           res = res.old;
           ck = ck.old;
           ik = ik.old;
           auts = auts.old;
         })
-        rand.now autn.now
-        ⌝ }
+        rand.now autn.now }
 {
     let read = usim_image::read(image);
     let usim = read.usim;
@@ -145,10 +137,8 @@ pub extern "C" fn vetrhoss_order(
     rands: &[u8],
     batch: &mut [u8],
 ) -> u64
-    ensures* { λ r. ⌜
-        record { result = r; octets = record { image = image.exit.now; batch = batch.new } }
-        ≡ order_call (record { image = image.entry.now; batch = batch.old }) count rands.now
-        ⌝ }
+    ensures { record { result = result; octets = record { image = image.new; batch = batch.new } }
+        ≡ order_call (record { image = image.old; batch = batch.old }) count rands.now }
 {
     let read = auc_image::read(image);
     let auc = read.auc;
@@ -169,11 +159,8 @@ pub extern "C" fn vetrhoss_resynchronise(
     rands: &[u8],
     batch: &mut [u8],
 ) -> u64
-    ensures* { λ r. ⌜
-        record { result = r; octets = record { image = image.exit.now; batch = batch.new } }
-        ≡ resync_call (record { image = image.entry.now; batch = batch.old }) count
-        rand.now auts.now rands.now
-        ⌝ }
+    ensures { record { result = result; octets = record { image = image.new; batch = batch.new } }
+        ≡ resync_call (record { image = image.old; batch = batch.old }) count rand.now auts.now rands.now }
 {
     let read = auc_image::read(image);
     let auc = read.auc;
@@ -199,9 +186,7 @@ pub extern "C" fn vetrhoss_vector_at(batch: &[u8], k: u64) -> u64
 // The triplets of a batch, for GSM phones.
 #[unsafe(no_mangle)]
 pub extern "C" fn vetrhoss_triplets(batch: &[u8], triplets: &mut [u8]) -> u64
-    ensures* { λ r. ⌜
-        record { result = r; octets = triplets.new } ≡ triplets_call batch.now triplets.old
-        ⌝ }
+    ensures { record { result = result; octets = triplets.new } ≡ triplets_call batch.now triplets.old }
 {
     triplets::convert(batch, triplets) as u64
 }

@@ -2,7 +2,7 @@
 //! resynchronised; a vector comes late, and the vectors are made triplets too.
 //! Run, from the repository's root:
 //!
-//!     rt staticlib vetrhoss
+//!     (cd crates/vetrhoss && rt lib)
 //!     cargo run --offline --manifest-path examples/rust/Cargo.toml
 //!
 //! K, OP, AMF and the first RAND are those of TS 35.208, test set 1, so that OPc,
