@@ -1,5 +1,5 @@
 -- The run with a place, from the place's own octets. Assumes nothing.
-use Prim.Native.Nat.{ℕ, ◌+◌, ◌*◌, ◌≤◌, ◌<◌}
+use Prim.Native.Nat.{ℕ, ◌+◌, ◌<◌}
 use mathlib.Core.Bool.{Bool, true, false, cond, true≢false}
 use mathlib.Core.List.{[]}
 use mathlib.Core.Path.{◌≡◌, refl, sym, ap, ◌∙◌}
@@ -9,42 +9,10 @@ use lib.ListN.{length, get_or, take, drop, drop_of_length-le}
 use lib.Seq.{drop-drop}
 use Rattle.octets.specs.Octets.{Octets, zeros, part}
 use Rattle.aka.specs.Layout.{Kind, vector, triplet, rand_size, ck_at, ck_size, ik_at, ik_size, autn_at, autn_size, xres_at, kc_at, kc_size}
-use Rattle.aka.specs.Layout.{kind_size, read_vector, read_triplet, triplet_size, vector_size, item_size, res_size, sres_size}
-use Rattle.aka.specs.Vlr.{Run, most_held, place_size, place_at, good_places, kind_in, item_in, is_vector, vector_run, triplet_run, run_of}
+use Rattle.aka.specs.Layout.{kind_size, read_vector, read_triplet, triplet_size, vector_size}
+use Rattle.aka.specs.Vlr.{Run, place_size, place_at, good_places, kind_in, item_in, is_vector, vector_run, triplet_run, run_of}
 use Rattle.aka.specs.Vlr.{run_in, res_size_of, all_zero, good_place}
 use Rattle.aka.proofs.VlrPlaces.{good_each}
-
--- ---- the kind
-
-pub is_vector_lem : (b : Bool) → b ≡ is_vector (cond b vector triplet)
-is_vector_lem true = refl
-is_vector_lem false = refl
-
-pub vector_size_lem : (kind : Kind) → is_vector kind ≡ true → res_size_of kind ≡ res_size
-vector_size_lem vector e = refl
-vector_size_lem triplet e = absurd (true≢false (sym e))
-
-pub triplet_size_lem : (kind : Kind) → is_vector kind ≡ false → res_size_of kind ≡ sres_size
-triplet_size_lem vector e = absurd (true≢false e)
-triplet_size_lem triplet e = refl
-
--- no response is longer than a vector's
-pub most_response : (kind : Kind) → res_size_of kind ≤ res_size
-most_response vector = omega arith
-most_response triplet = omega arith
-
-pub most_item : (kind : Kind) → item_size kind ≤ vector_size
-most_item vector = omega arith
-most_item triplet = omega arith
-
--- item k of the few that a batch has
-pub most_octets : (kind : Kind) (k : ℕ) → k ≤ most_held → item_size kind * k ≤ vector_size * most_held
-most_octets vector k few = omega arith
-most_octets triplet k few = omega arith
-
-pub item_inside : (kind : Kind) (k count : ℕ) → k < count → item_size kind * k + item_size kind ≤ item_size kind * count
-item_inside vector k count lt = omega arith
-item_inside triplet k count lt = omega arith
 
 -- ---- the run
 

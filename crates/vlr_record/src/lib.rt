@@ -10,7 +10,7 @@ ghost use Rattle.vlr_record.specs.Views.{state_of, vlr_of};
 pub use vlr_places::Kind;
 
 // Asked: a request is not answered yet. Resyncing: a synchronisation failure was handed on.
-#[derive(Drop)]
+#[derive(Clone, Copy, Drop)]
 pub enum State {
     Idle,
     Asked,
@@ -18,7 +18,7 @@ pub enum State {
 }
 
 // `queue` has the `held` places in use, oldest first, then zeros; `out` is the outstanding place, zeros when none.
-#[derive(Drop)]
+#[derive(Clone, Copy, Drop)]
 pub struct Vlr {
     pub state: State,
     pub held: u8,
@@ -27,7 +27,7 @@ pub struct Vlr {
 }
 
 // A cause and a refusal have their numbers.
-#[derive(Drop)]
+#[derive(Clone, Copy, Drop)]
 pub enum Outcome {
     Done,
     Passed,
@@ -36,7 +36,7 @@ pub enum Outcome {
 }
 
 // `vlr` is the next record. Octets that the outcome does not give are zero.
-#[derive(Drop)]
+#[derive(Clone, Copy, Drop)]
 pub struct Reply {
     pub outcome: Outcome,
     pub vlr: Vlr,
@@ -93,6 +93,7 @@ pub fn is_resyncing(state: State) -> bool
 }
 
 // Whether refusal 1 does not apply.
+#[tactic(auto, unfolding(aka::specs::Vlr::valid_vlr))]
 pub fn is_valid(vlr: Vlr) -> bool
     ensures { result ≡ spec.valid_vlr (vlr_of vlr) }
 {

@@ -9,6 +9,7 @@ ghost use Rattle.vlr_places.specs.Views.{kind_of};
 use vlr_places::Kind;
 
 // Whether the first `held` places are as they should be.
+#[tactic(auto, using(aka::proofs::VlrPlaces::good_next, vlr_places::proofs::Items::bad_place), unfolding(aka::specs::Vlr::good_places))]
 pub fn are_good(queue: [u8; aka::QUEUE_SIZE], held: usize) -> bool
     requires { held ≤ most_held }
     ensures { result ≡ good_places queue held }
