@@ -8,7 +8,7 @@ ghost use Rattle.fields.specs.Fields.{begins as begins_with, decimal, end_of, is
 pub const MOST_DIGITS: usize = 20;
 
 // A number, or `ok` false and zero.
-#[derive(Drop)]
+#[derive(Clone, Copy, Drop)]
 pub struct Number {
     pub ok: bool,
     pub value: u64,
