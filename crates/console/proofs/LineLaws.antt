@@ -70,7 +70,8 @@ unfolding lines before has_newline up_to_newline past_newline
 lines_first [] more e = absurd (false≢true e)
 lines_first (c ∷ t) more e = go (eqb c newline) (lines_first t more) e
   where
-    go : (b : Bool) → (has_newline t ≡ true → lines (t ++ more) ≡ up_to_newline t ∷ lines (past_newline t ++ more)) → (b || has_newline t) ≡ true
+    go : (b : Bool) → (has_newline t ≡ true → lines (t ++ more) ≡ up_to_newline t ∷ lines (past_newline t ++ more))
+        → (b || has_newline t) ≡ true
         → cond b ([] ∷ lines (t ++ more)) (before (c ∷ []) (lines (t ++ more)))
         ≡ cond b [] (c ∷ up_to_newline t) ∷ lines (cond b t (past_newline t) ++ more)
     go true h e = refl

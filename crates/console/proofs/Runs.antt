@@ -1,16 +1,16 @@
 -- The claim about programs that answer lines, for every run. Assumes nothing.
-use Prim.Native.Nat.{ℕ, zero, suc, ◌+◌, ◌/◌, ◌≤◌}
+use Prim.Native.Nat.{ℕ, zero, suc, ◌/◌, ◌≤◌}
 use mathlib.Core.Bool.{Bool, true, false, ◌&&◌, ◌||◌, not, cond, false≢true, and-false, and-true}
 use mathlib.Core.List.{List, [], ◌∷◌, ◌++◌, append_assoc, append-nil, map, map-append, flatten}
 use mathlib.Core.Path.{◌≡◌, refl, sym, ap, ap₂, ◌∙◌}
 use native.Mathlib.Omega.{arith}
-use borrow.Author.Tests.{eqb-true, ltb-false}
-use lib.Dec.{eqb, ltb}
+use borrow.Author.Tests.{ltb-false}
+use lib.Dec.{ltb}
 use lib.ListN.{length, take, length-append}
 use lib.Seq.{append_snoc, take_all, take-nil}
 use Rattle.console.specs.Lines.{before, has_newline, last_line, lines, past_newline, up_to_newline}
 use Rattle.console.specs.Turns.{Answer, Answering, AnswersAll, Chain, Claim, Given, Gives, History, Run, Served, SoFar, Standing}
-use Rattle.console.specs.Turns.{advanced, answer, answered, at_first, begin, due, ended, exchanged, is_empty, line_ends, longer}
+use Rattle.console.specs.Turns.{advanced, answer, answered, begin, due, ended, exchanged, is_empty, line_ends, longer}
 use Rattle.console.specs.Turns.{not_due, reads, stopped, part_taken, transcript, turn, writes}
 use Rattle.console.proofs.LineLaws.{all_of_it, before_more, before_none, cut_before, lines_before, lines_first}
 
@@ -47,7 +47,8 @@ module _ (longest : ℕ) (some : 1 ≤ longest) where
   unfolding left_of before last_line lines longer is_empty
   last_taken line = go longest line some
     where
-      go : (n : ℕ) (l : List ℕ) → 1 ≤ n → left_of n false false l [] [] ≡ left_of n (not (is_empty (longer n l []))) true (longer n l []) [] []
+      go : (n : ℕ) (l : List ℕ) → 1 ≤ n
+          → left_of n false false l [] [] ≡ left_of n (not (is_empty (longer n l []))) true (longer n l []) [] []
       go n [] h = ap (λ (x : List ℕ). left_of n (not (is_empty x)) true x [] []) (sym (take-nil n))
       go zero (x ∷ l) h = absurd (omega arith)
       go (suc n) (x ∷ l) h = ap (λ (y : List ℕ). (x ∷ take n y) ∷ []) (sym (append-nil l))
@@ -97,7 +98,8 @@ module _ (longest : ℕ) (some : 1 ≤ longest) where
       → (next_over piece came over ≡ true → more ≡ []) → left_of longest false over line piece (brought piece came over ++ more)
       ≡ left_of longest
       (line_ends (next_piece piece came over) (next_over piece came over) (next_line longest some line (next_piece piece came over)))
-      (next_over piece came over) (next_line longest some line (next_piece piece came over)) (past_newline (next_piece piece came over)) more
+      (next_over piece came over) (next_line longest some line (next_piece piece came over))
+      (past_newline (next_piece piece came over)) more
   unfolding line_ends has_newline up_to_newline past_newline left_of is_empty
   left_turned line [] came true end more h = rw (h refl) (none_taken longest some line (end refl).1)
   left_turned line (p ∷ piece) came true end more h = not_none p piece (end refl).0
@@ -108,7 +110,8 @@ module _ (longest : ℕ) (some : 1 ≤ longest) where
   -- at the end of the input nothing is left of the piece, and of a line only what is ready
   end_turned : (line piece came : List ℕ) (over : Bool) → (over ≡ true → (piece ≡ []) × (line ≡ [])) → next_over piece came over ≡ true
       → (past_newline (next_piece piece came over) ≡ [])
-      × (line_ends (next_piece piece came over) (next_over piece came over) (next_line longest some line (next_piece piece came over)) ≡ false
+      × (line_ends (next_piece piece came over) (next_over piece came over)
+      (next_line longest some line (next_piece piece came over)) ≡ false
       → next_line longest some line (next_piece piece came over) ≡ [])
   unfolding line_ends has_newline up_to_newline past_newline is_empty
   end_turned line [] came true end e = (refl, empty _)

@@ -9,7 +9,7 @@ use lib.Dec.{eqb, ltb}
 use lib.ListN.{drop, length, take}
 use lib.Seq.{drop-drop}
 use Rattle.octets.proofs.Walks.{drop_min}
-use Rattle.console.specs.Lines.{has_newline, past_newline, up_to_newline}
+use Rattle.console.specs.Lines.{past_newline, up_to_newline}
 use Rattle.console.specs.Turns.{Standing, due, exchanged, is_empty, line_ends, longer, not_due, reads, standing, part_taken, writes}
 use Rattle.console.proofs.BufferLaws.{all_or_none, less}
 use Rattle.console.proofs.LineLaws.{rest}

@@ -9,7 +9,7 @@ ghost use Rattle.console.specs.Buffers.{appended, buffer_of};
 ghost use Rattle.console.specs.Lines.{up_to_newline};
 ghost use Rattle.console.specs.Turns.{advanced, due, ended_at, exchanged, standing_of, stopped, part_taken};
 
-use libc::{STDERR_FILENO, STDIN_FILENO, STDOUT_FILENO};
+use std::io::{Read, Write};
 
 const NEWLINE: u8 = 10;
 
@@ -59,7 +59,7 @@ fn up_to_newline(bytes: &[u8]) -> usize
 
 // The part of the piece from `at` up to `size` is not taken yet, `held` counts the bytes of the line, and `used` those that wait to be
 // written out. `ready` says that the line is whole, `over` that the input has ended, and `failed` that a write failed.
-#[derive(Drop)]
+#[derive(Clone, Copy, Drop)]
 pub struct Progress {
     at: usize,
     size: usize,
@@ -137,33 +137,42 @@ pub struct Written {
     pub arrived: bool,
 }
 
-// Hands what is due to the standard output. Where that is nothing, no call is made.
-fn write_due(piece: &[u8], out: &[u8], p: Progress) -> Written
+// Hands what is due to the writer. Where that is nothing, no call is made.
+fn write_due<W: Write>(output: &mut W, piece: &[u8], out: &[u8], p: Progress) -> Written
     ensures { (line : List ℕ) → result.count
         ≡ length (due (length out.now) (standing_of piece.now line out.now p)) }
 {
     let bytes = due_part(piece, out, p);
-    let arrived = io::write_all(STDOUT_FILENO, bytes);
+    let arrived = output.write_all(bytes).is_ok();
     Written {
         count: bytes.len(),
         arrived,
     }
 }
 
-// One read of the standard input, so that a line that is typed is answered at once. How many bytes came to the front of `piece`: none at
-// the end of the input, or where the read fails.
-fn fetch(piece: &mut [u8]) -> usize
+// One read, so that a line that is typed is answered at once. How many bytes came to the front of `piece`: none at the end of the input, or
+// where the read fails.
+fn fetch<R: Read>(input: &mut R, piece: &mut [u8]) -> usize
     ensures { IsPrefixLen result piece.new }
 {
-    let got = libc::read(STDIN_FILENO, piece);
-    io::count(got, piece)
+    match input.read(piece) {
+        Ok(n) => n,
+        Err(_) => 0,
+    }
 }
 
 // ---- a turn
 
 // Writes out what is due, and reads the next piece where the last one is used up. What was written out no longer waits. A write that
-// fails is told on the standard error, and nothing is read.
-fn exchange(piece: &mut [u8], out: &[u8], p: Progress) -> Progress
+// fails is told on the writer for errors, and nothing is read.
+fn exchange<R: Read, W: Write, E: Write>(
+    input: &mut R,
+    output: &mut W,
+    errors: &mut E,
+    piece: &mut [u8],
+    out: &[u8],
+    p: Progress,
+) -> Progress
     ensures { (line : List ℕ) → standing_of piece.new line out.now result
         ≡ cond result.failed (stopped (standing_of piece.old line out.now p))
         (exchanged (length out.now) (standing_of piece.old line out.now p)
@@ -171,9 +180,9 @@ fn exchange(piece: &mut [u8], out: &[u8], p: Progress) -> Progress
 {
     let left = untaken(piece, p).len();
     let waiting = first_bytes(out, p.used).len();
-    let written = write_due(piece, out, p);
+    let written = write_due(output, piece, out, p);
     if !written.arrived {
-        io::write_all(STDERR_FILENO, b"the answers cannot be written\n");
+        let _ = errors.write_all(b"the answers cannot be written\n");
         return Progress {
             at: p.at,
             size: p.size,
@@ -196,7 +205,7 @@ fn exchange(piece: &mut [u8], out: &[u8], p: Progress) -> Progress
             failed: false,
         };
     }
-    let size = fetch(piece);
+    let size = fetch(input, piece);
     Progress {
         at: 0,
         size,
@@ -231,12 +240,20 @@ fn take_part(piece: &[u8], line: &mut [u8], p: Progress) -> Progress
 
 // A turn, up to the answer: writes out, reads and takes what is next. Where the line is whole after it, the line buffer begins with
 // `held` bytes of it: all, or as many as the buffer has. What stands behind them, and in the piece outside what is not taken yet, is free.
-pub fn advance(piece: &mut [u8], line: &mut [u8], out: &[u8], p: Progress) -> Progress
+pub fn advance<R: Read, W: Write, E: Write>(
+    input: &mut R,
+    output: &mut W,
+    errors: &mut E,
+    piece: &mut [u8],
+    line: &mut [u8],
+    out: &[u8],
+    p: Progress,
+) -> Progress
     ensures { standing_of piece.new line.new out.now result
         ≡ advanced (length line.old) (length out.now)
         (standing_of piece.old line.old out.now p) result.failed (take result.size piece.new) }
 {
-    let met = exchange(piece, out, p);
+    let met = exchange(input, output, errors, piece, out, p);
     if met.failed {
         return met;
     }
@@ -246,7 +263,8 @@ pub fn advance(piece: &mut [u8], line: &mut [u8], out: &[u8], p: Progress) -> Pr
 // The text of an answer goes behind those that wait, as far as there is room, and the next line begins.
 pub fn put_answer(out: &mut [u8], p: Progress, text: &[u8]) -> Progress
     ensures bytes { buffer_of result.used out.new ≡ appended out.old p.used text.now }
-    ensures progress { result ≡ record { at = p.at; size = p.size; held = 0; used = result.used; ready = false; over = p.over; failed = p.failed } }
+    ensures progress { result
+        ≡ record { at = p.at; size = p.size; held = 0; used = result.used; ready = false; over = p.over; failed = p.failed } }
 {
     let used = append(out, p.used, text);
     Progress {

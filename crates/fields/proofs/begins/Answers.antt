@@ -30,10 +30,8 @@ returns-then-line-i c =
 pub loop-i-preserved : goal.loop-i-preserved
 loop-i-preserved c =
     let l = c.loop-i in
-    record {
-      within = omega arith;
-      decides = next c.args.word.now c.args.line.now l.i (omega arith) (omega arith) l.invariant.decides ∙ rw (eq-eqb _ _ c.if-line-i.false);
-    }
+    let test = next c.args.word.now c.args.line.now l.i (omega arith) (omega arith) l.invariant.decides in
+    record { within = omega arith; decides = test ∙ rw (eq-eqb _ _ c.if-line-i.false) }
 
 pub returns : goal.returns
 unfolding begins

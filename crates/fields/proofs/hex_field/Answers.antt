@@ -1,5 +1,6 @@
 -- `hex_field` reads the field at a place, where the line goes on far enough.
-use Rattle.std.proofs.Common.{ℕ, Bool, List, ◌≡◌, ◌≢◌, ◌≤◌, ◌<◌, ◌+◌, ◌-◌, ◌*◌, false, sym, ap, length, get_or, take, drop, length-take, length-drop, arith}
+use Rattle.std.proofs.Common.{ℕ, Bool, List, ◌≡◌, ◌≢◌, ◌≤◌, ◌<◌, ◌+◌, ◌-◌, ◌*◌, false, sym, ap}
+use Rattle.std.proofs.Common.{length, get_or, take, drop, length-take, length-drop, arith}
 use mathlib.Core.Bool.{and-false}
 use borrow.Author.Tests.{eq-eqb, ne_eqb}
 use lib.Dec.{eqb}
