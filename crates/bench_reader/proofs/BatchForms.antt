@@ -1,5 +1,5 @@
 -- Why a line is no order or resync, and what it is where it is one. Assumes nothing.
-use Prim.Native.Nat.{ℕ, ◌+◌, ◌-◌, ◌*◌}
+use Prim.Native.Nat.{ℕ, ◌+◌, ◌*◌}
 use mathlib.Core.Bool.{true, false, cond, and-false}
 use mathlib.Core.List.{List, ◌++◌}
 use mathlib.Core.Path.{◌≡◌, sym}
@@ -49,3 +49,6 @@ module _ (word : Word) (at : ℕ) (line : List ℕ) {n : ℕ} (is : n ≡ count_
   pub right_length : (n ≡ 0 → ⊥) → length line ≡ rand_field_at (at + 1) n → WithRands word n (at + 1) line ≡ read_batch word at line
   unfolding read_batch batch_form
   right_length h l = rw (← is, lt-ltb 0 n (omega arith), eq-eqb (length line) (rand_field_at (at + 1) n) l)
+
+-- each test of the count that fails, and the line that has one
+pub ruleset batch_forms = (no_count, other_length, right_length)

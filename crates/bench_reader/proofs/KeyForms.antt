@@ -7,6 +7,7 @@ use borrow.Author.Tests.{eq-eqb, ne_eqb}
 use lib.ListN.{length, get_or}
 use Rattle.octets.specs.Octets.{Octets, zeros}
 use Rattle.fields.specs.Fields.{is_hex_field, octets_in, is_decimal_digit, decimal_digit}
+use Rattle.fields.proofs.FieldLaws.{low_digit, high_digit}
 use Rattle.aka.specs.Layout.{key_size, amf_size}
 use Rattle.bench_reader.specs.Commands.{key, bad_line, alone, set_at, k_at, opc_at, key_amf_at, key_length}
 use Rattle.bench_reader.specs.Commands.{key_form, key_command, read_key, rands_size}
@@ -52,3 +53,6 @@ module _ (line : List ℕ) where
       } ≡ read_key line
   unfolding read_key key_form key_command
   key_read n s a b c is-k is-opc is-amf = rw (eq-eqb (length line) key_length n, s, a, b, c, is-k, is-opc, is-amf)
+
+-- each test of a key line that fails
+pub ruleset no_key_forms = (key_length_lem, key_set, key_k, key_opc, key_amf, low_digit, high_digit)

@@ -77,3 +77,16 @@ module _ (line : List ℕ) where
       → seqhe ≡ decimal (seqhe_text line) → next ≡ decimal (next_text line) → put_command seqhe next ≡ read_put line
   unfolding read_put put_form
   put_read a b is-seqhe is-next = rw (a, b, is-seqhe, is-next)
+
+-- both numbers, each test of them that fails, and the line that has them
+pub ruleset put_forms = (
+  seqhe_is,
+  next_is,
+  no_next,
+  put_seqhe,
+  put_next,
+  put_read,
+  number_false,
+  number_true,
+  number_value,
+)

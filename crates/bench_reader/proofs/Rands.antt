@@ -3,18 +3,16 @@ use Prim.Native.Nat.{ℕ, zero, suc, ◌+◌, ◌-◌, ◌*◌, ◌≤◌, ◌<�
 use mathlib.Core.Bool.{true, false, ◌&&◌, and-false}
 use mathlib.Core.List.{List, ◌++◌, append_assoc}
 use mathlib.Core.Logic.{⊎_elim}
-use mathlib.Core.Path.{◌≡◌, refl, sym, ap, ◌∙◌}
+use mathlib.Core.Path.{◌≡◌, sym, ap, ◌∙◌}
 use native.Mathlib.Nat.{eq-or-lt_of_le}
 use native.Mathlib.Numerals.{add-one}
 use native.Mathlib.Omega.{arith}
 use borrow.Author.Tests.{le-leb, lt-leb}
 use borrow.Rule.Slice.PartMut.{put_mid, Post-is}
 use lib.Dec.{leb}
-use lib.ListN.{length, get_or, drop, length-append, get_or-eq_default}
+use lib.ListN.{length, get_or, drop, get_or-eq_default}
 use lib.Seq.{take_at, drop-append-add, drop-drop}
-use Rattle.octets.specs.Octets.{Octets, zeros}
-use Rattle.octets.proofs.Parts.{length_part}
-use Rattle.hex_digits.proofs.HexLaws.{length_unhex}
+use Rattle.octets.specs.Octets.{Octets}
 use Rattle.fields.specs.Fields.{is_hex_field, octets_in, decimal_digit}
 use Rattle.aka.specs.Layout.{rand_size, most_vectors}
 use Rattle.bench_reader.specs.Commands.{count_at, rand_field_at, rand_fields, rand_octets}
@@ -75,3 +73,5 @@ module _ (at : ℕ) (line : List ℕ) where
   -- past the end there is none
   pub count_past : length line ≤ at → 0 ≡ count_at at line
   count_past h = count_low (omega (arith, get_or-eq_default line 0 h))
+
+pub ruleset counts = (count_past, count_low, count_high, count_is)

@@ -10,6 +10,7 @@ use crate::{Command, Word};
 const RAND_FIELD: usize = 1 + 2 * aka::RAND_SIZE;
 
 // The count at a place of the line, 1 to 5; else 0.
+#[tactic(auto, using(crate::proofs::Rands::counts))]
 fn count_at(line: &[u8], at: usize) -> u8
     ensures { (result ≡ count_at at line.now) × (result ≤ most_vectors) }
 {
@@ -58,6 +59,7 @@ fn read_rands(word: Word, count: u8, line: &[u8], from: usize) -> Command
 }
 
 // The count stands at a place of the line.
+#[tactic(auto, using(crate::proofs::BatchForms::batch_forms))]
 pub fn read_batch(word: Word, line: &[u8], at: usize) -> Command
     requires { at ≤ length resync_word }
     ensures { command_of result ≡ read_batch (word_of word) at line.now }

@@ -21,6 +21,7 @@ const AMF: usize = OPC + KEY_FIELD;
 
 const KEY_LINE: usize = AMF + AMF_FIELD;
 
+#[tactic(auto, using(crate::proofs::KeyForms::no_key_forms))]
 pub fn read_key(line: &[u8]) -> Command
     ensures { command_of result ≡ read_key line.now }
 {

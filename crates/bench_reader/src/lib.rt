@@ -15,7 +15,7 @@ pub const LONGEST: usize = 512;
 // The octets of as many RANDs as a line can have.
 pub const RANDS_SIZE: usize = aka::RAND_SIZE * (aka::MOST_VECTORS as usize);
 
-#[derive(Drop)]
+#[derive(Clone, Copy, Drop)]
 pub enum Word {
     Bad,
     Key,
@@ -27,7 +27,7 @@ pub enum Word {
 }
 
 // What a line asks for. What its word does not name is zero.
-#[derive(Drop)]
+#[derive(Clone, Copy, Drop)]
 pub struct Command {
     pub word: Word,
     pub set: u8,
@@ -41,6 +41,7 @@ pub struct Command {
 }
 
 // A word and nothing else.
+#[tactic(auto, unfolding(crate::specs::Commands::alone))]
 fn word_alone(word: Word) -> Command
     ensures { command_of result ≡ alone (word_of word) }
 {
@@ -58,6 +59,7 @@ fn word_alone(word: Word) -> Command
 }
 
 // Whether the line is the word and nothing else.
+#[tactic(auto, unfolding(crate::specs::Commands::is_word))]
 fn is_word(line: &[u8], word: &[u8]) -> bool
     ensures { result ≡ is_word_of word.now line.now }
 {
@@ -68,6 +70,7 @@ fn is_word(line: &[u8], word: &[u8]) -> bool
 }
 
 // Reads a line by its word.
+#[tactic(auto, using(crate::proofs::Choices::begins_length), unfolding(crate::specs::Commands::read_form))]
 fn read_form(line: &[u8]) -> Command
     ensures { command_of result ≡ read_form line.now }
 {
@@ -93,6 +96,7 @@ fn read_form(line: &[u8]) -> Command
 }
 
 // Reads a line of any bytes and any length.
+#[tactic(auto, unfolding(crate::specs::Commands::read))]
 pub fn read(line: &[u8]) -> Command
     ensures { command_of result ≡ read_line line.now }
 {

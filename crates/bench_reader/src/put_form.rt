@@ -15,6 +15,7 @@ const SEQHE_DIGITS: usize = 13;
 const NEXT_DIGITS: usize = 2;
 
 // Reads a decimal number of at most so many digits.
+#[tactic(auto, using(crate::proofs::PutForms::too_long, crate::proofs::PutForms::short_enough))]
 fn number(text: &[u8], most: usize) -> Number
     ensures { (result.ok ≡ is_number most text.now) × (result.value ≡ cond (is_number most text.now) (decimal text.now) 0) }
 {
@@ -27,6 +28,7 @@ fn number(text: &[u8], most: usize) -> Number
     fields::read_number(text)
 }
 
+#[tactic(auto, unfolding(crate::specs::Commands::put_command))]
 fn put_numbers(seqhe: u64, next: u64) -> Command
     ensures { command_of result ≡ put_command seqhe next }
 {
@@ -44,6 +46,7 @@ fn put_numbers(seqhe: u64, next: u64) -> Command
 }
 
 // Reads a line that begins with "put ".
+#[tactic(auto, using(crate::proofs::PutForms::put_forms))]
 pub fn read_put(line: &[u8]) -> Command
     requires { seqhe_at ≤ length line.now }
     ensures { command_of result ≡ read_put line.now }
