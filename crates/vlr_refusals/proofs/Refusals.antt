@@ -1,20 +1,13 @@
 -- What holds where no refusal applies, by the laws of `aka`'s chain of refusals and of its tests. Assumes nothing.
 use Prim.Native.Nat.{ℕ, ◌+◌, ◌*◌, ◌≤◌, ◌<◌}
-use mathlib.Core.Bool.{Bool}
-use mathlib.Core.Path.{◌≡◌, ap₂, ◌∙◌}
+use mathlib.Core.Path.{◌≡◌}
 use lib.ListN.{length}
 use Rattle.octets.specs.Octets.{Octets}
 use Rattle.aka.specs.Layout.{Kind, item_size, auts_size, most_vectors}
-use Rattle.aka.specs.Vlr.{Vlr, most_held, kind_in, res_size_of, response_fits, refusal_or, store_refusal, ask_refusal, asked_refusal, sync_refusal}
+use Rattle.aka.specs.Vlr.{Vlr, most_held, kind_in, res_size_of, response_fits, store_refusal, ask_refusal, asked_refusal, sync_refusal}
 use Rattle.aka.specs.Vlr.{renew_refusal}
 use Rattle.aka.proofs.Replies.{clear}
 use Rattle.aka.proofs.VlrLaws.{equals, counts, fits, room, some_held}
-
--- the number, from the tests as the code made them
-pub refusal_is : (vlr : Vlr) (counted sized good : Bool) {named named' : Bool} {rest rest' r : ℕ}
-    → r ≡ refusal_or vlr counted sized good named rest → named ≡ named' → rest ≡ rest'
-    → r ≡ refusal_or vlr counted sized good named' rest'
-refusal_is vlr counted sized good e f g = e ∙ ap₂ (λ (b : Bool) (n : ℕ). refusal_or vlr counted sized good b n) f g
 
 module _ (vlr : Vlr) (kind : Kind) (count : ℕ) (batch : Octets) where
   -- the batch has its length, and there is room for it

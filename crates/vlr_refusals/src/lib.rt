@@ -10,6 +10,7 @@ use vlr_places::Kind;
 use vlr_record::{Vlr, has_room, is_asked, is_idle, is_resyncing, is_valid};
 
 // Whether refusal 2 does not apply.
+#[tactic(auto, unfolding(aka::specs::Vlr::count_fits))]
 fn count_fits(count: u64) -> bool
     ensures { result ≡ spec.count_fits count }
 {
@@ -21,6 +22,7 @@ fn count_fits(count: u64) -> bool
 
 // Whether `size` octets are `count` items of `item` octets each. The octets of a count of any size need not fit a u64, so the length is
 // divided.
+#[tactic(auto, using(crate::proofs::Tests::broken))]
 fn is_whole(size: usize, item: usize, count: u64) -> bool
     requires { 0 < item }
     ensures { result ≡ eqb size (item * count) }
@@ -32,6 +34,7 @@ fn is_whole(size: usize, item: usize, count: u64) -> bool
 }
 
 // Whether refusal 3 does not apply.
+#[tactic(auto, unfolding(aka::specs::Vlr::batch_fits))]
 fn batch_fits(kind: Kind, count: u64, batch: &[u8]) -> bool
     ensures { result ≡ spec.batch_fits (kind_of kind) count batch.now }
 {
@@ -55,6 +58,7 @@ fn response_fits(vlr: Vlr, size: usize) -> bool
 
 // The first of 1, 2, 3, 1 and 7 that applies, else `rest`. `counted`, `sized`: the count and the lent part are as named; `good`: so is what
 // a batch holds; `named`: the operation is named for the state and for what is out.
+#[tactic(auto, unfolding(aka::specs::Vlr::refusal_or))]
 fn refusal_or(vlr: Vlr, counted: bool, sized: bool, good: bool, named: bool, rest: u8) -> u8
     ensures { result ≡ spec.refusal_or (vlr_of vlr) counted sized good named rest }
 {
@@ -93,6 +97,7 @@ fn batch_refusal(vlr: Vlr, kind: Kind, count: u64, batch: &[u8], named: bool, re
 }
 
 // Of Store.
+#[tactic(auto, unfolding(aka::specs::Vlr::store_refusal))]
 pub fn store_refusal(vlr: Vlr, kind: Kind, count: u64, batch: &[u8]) -> u8
     ensures { result ≡ spec.store_refusal (vlr_of vlr) (kind_of kind) count batch.now }
 {
@@ -105,6 +110,7 @@ pub fn store_refusal(vlr: Vlr, kind: Kind, count: u64, batch: &[u8]) -> u8
 }
 
 // Of Ask.
+#[tactic(auto, unfolding(aka::specs::Vlr::ask_refusal))]
 pub fn ask_refusal(vlr: Vlr) -> u8
     ensures { result ≡ spec.ask_refusal (vlr_of vlr) }
 {
@@ -117,6 +123,7 @@ pub fn ask_refusal(vlr: Vlr) -> u8
 }
 
 // Of the operations in Asked but Sync; `sized`: the lent part, if any, has the length named.
+#[tactic(auto, unfolding(aka::specs::Vlr::asked_refusal))]
 pub fn asked_refusal(vlr: Vlr, sized: bool) -> u8
     ensures { result ≡ spec.asked_refusal (vlr_of vlr) sized }
 {
@@ -144,6 +151,7 @@ fn sync_named(vlr: Vlr) -> bool
 }
 
 // Of Sync.
+#[tactic(auto, unfolding(aka::specs::Vlr::sync_refusal))]
 pub fn sync_refusal(vlr: Vlr, auts: &[u8]) -> u8
     ensures { result ≡ spec.sync_refusal (vlr_of vlr) auts.now }
 {
@@ -158,6 +166,7 @@ pub fn sync_refusal(vlr: Vlr, auts: &[u8]) -> u8
 }
 
 // Of Renew.
+#[tactic(auto, unfolding(aka::specs::Vlr::renew_refusal))]
 pub fn renew_refusal(vlr: Vlr, kind: Kind, count: u64, batch: &[u8]) -> u8
     ensures { result ≡ spec.renew_refusal (vlr_of vlr) (kind_of kind) count batch.now }
 {
@@ -166,6 +175,7 @@ pub fn renew_refusal(vlr: Vlr, kind: Kind, count: u64, batch: &[u8]) -> u8
 }
 
 // Of Timeout.
+#[tactic(auto, unfolding(aka::specs::Vlr::timeout_refusal))]
 pub fn timeout_refusal(vlr: Vlr) -> u8
     ensures { result ≡ spec.timeout_refusal (vlr_of vlr) }
 {
