@@ -12,7 +12,7 @@ ghost use Rattle.functions.specs.Challenge.{keys_of, schedule_of, IsSchedule, ou
 use aes_words::Block;
 
 // What USIM and AuC hold of a subscriber: the function set, K and OPc.
-#[derive(Drop)]
+#[derive(Clone, Copy, Drop)]
 pub struct Keys {
     pub set: u8,
     pub k: [u8; aka::KEY_SIZE],
@@ -20,7 +20,7 @@ pub struct Keys {
 }
 
 // A RAND taken up: `base` is X of set 0, T of MILENAGE.
-#[derive(Drop)]
+#[derive(Clone, Copy, Drop)]
 pub struct Challenge {
     pub set: u8,
     pub opc: Block,
@@ -28,7 +28,7 @@ pub struct Challenge {
 }
 
 // RES and AK.
-#[derive(Drop)]
+#[derive(Clone, Copy, Drop)]
 pub struct ResAk {
     pub res: [u8; aka::RES_SIZE],
     pub ak: [u8; aka::SQN_SIZE],
