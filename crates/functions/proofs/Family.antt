@@ -14,8 +14,8 @@ use Rattle.octets.proofs.Ranges.{below_part, below_xor}
 use Rattle.aes_schedule.specs.KeyExpansion.{key_expansion}
 use Rattle.aes.specs.Cipher.{aes}
 use Rattle.aes.proofs.Range.{length_cipher, cipher_below}
-use Rattle.milenage.specs.Milenage.{constant, temp, in1, out1, out}
-use Rattle.aka.specs.Functions.{Keys, Shaped, Lengths, Lawful}
+use Rattle.milenage.specs.Milenage.{constant, in1, out1, out}
+use Rattle.aka.specs.Functions.{Keys, Shaped, Lawful}
 use Rattle.functions.specs.Sets.{Outputs, test_outputs, milenage_outputs, base_of, outputs, outputs_of, sets}
 
 -- the outputs for one RAND have their lengths

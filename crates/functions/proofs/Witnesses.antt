@@ -11,7 +11,7 @@ use lib.ListN.{replicate, set, drop}
 use Rattle.octets.specs.Octets.{Octets, xor, part, equal, turn_left, encode, digits, spelt}
 use Rattle.octets.proofs.Absurd.{zero_not_one}
 use Rattle.aka.specs.Layout.{all_zero, vector_size, vector_at, write_autn, read_autn, write_auts, read_auts, write_vector, read_vector, joined}
-use Rattle.aka.specs.Functions.{Keys, Shaped}
+use Rattle.aka.specs.Functions.{Shaped}
 use Rattle.aka.specs.Sequence.{width_of, indices, limit, sqn_of}
 use Rattle.aka.specs.Editions.{editions, is_edition, row_of}
 use Rattle.aka.specs.Usim.{Usim, UsimAnswer, accepted, mac_failure, sync_failure, refused, challenge, verdict_on, judgement, answer_with}
