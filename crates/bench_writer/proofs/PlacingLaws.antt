@@ -1,27 +1,12 @@
 -- Texts that are put into a buffer one behind the other. Assumes nothing.
-use Prim.Native.Nat.{ℕ, ◌+◌, ◌-◌, ◌≤◌}
-use mathlib.Core.List.{List, ◌++◌, append_assoc, append-nil}
+use Prim.Native.Nat.{ℕ, ◌+◌, ◌≤◌}
+use mathlib.Core.List.{List, ◌++◌, append_assoc}
 use mathlib.Core.Path.{◌≡◌, sym, ap, ◌∙◌}
 use native.Mathlib.Nat.{add_assoc}
 use native.Mathlib.Omega.{arith}
-use borrow.Rule.Slice.PartMut.{put_mid, Post-is}
-use lib.ListN.{length, take, drop, length-append, length-drop}
-use lib.Seq.{take_all, take_at, take-length, drop-length, drop-drop, drop-append-add, length-take-le}
+use lib.ListN.{length, take, drop, length-append}
+use lib.Seq.{take_at, drop-drop, drop-append-add, length-take-le}
 use Rattle.bench_writer.specs.Placing.{Placed}
-
--- a copy from a place on
-pub copied : (buffer text : List ℕ) (at : ℕ) → at + length text ≤ length buffer
-    → put_mid at (length buffer - at) buffer (take (length text) text ++ drop (length text) (take (length buffer - at) (drop at buffer)))
-    ≡ take at buffer ++ (text ++ drop (at + length text) buffer)
-copied buffer text at h =
-    rw (
-      Post-is at (length buffer) buffer (omega arith),
-      drop-length buffer,
-      take-length text,
-      take_all (length buffer - at) (drop at buffer) (simp length-drop (omega arith)),
-      drop-drop (length text) at buffer,
-      append-nil (text ++ drop (at + length text) buffer),
-    )
 
 -- the same text
 pub placed_same : {buffer after text text' : List ℕ} {at next : ℕ} → text ≡ text'

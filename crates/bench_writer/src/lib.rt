@@ -14,7 +14,7 @@ pub const ROOM: usize = 96;
 
 // What the numbers are: count stored and vectors held; the accepted SQN and vectors left; the number of a cause or of a refusal; SEQ_HE,
 // next index, SEQ_MS and its index.
-#[derive(Drop)]
+#[derive(Clone, Copy, Drop)]
 pub enum Reply {
     KeyOk,
     PutOk,
@@ -31,6 +31,7 @@ pub enum Reply {
 }
 
 // Puts the text at the front of a buffer with room for it.
+#[tactic(auto, unfolding(crate::specs::Replies::text_of))]
 fn put_reply(reply: Reply, out: &mut [u8]) -> usize
     requires { room ≤ length out.old }
     ensures { Placed out.old 0 (text_of (reply_of reply)) out.new result }
@@ -55,6 +56,7 @@ fn put_reply(reply: Reply, out: &mut [u8]) -> usize
 
 // Writes the text of `reply` to the front of `out`, and returns its length. Where `out` has less than `ROOM` bytes, it stays as it
 // was, and 0 is returned.
+#[tactic(auto, using(crate::proofs::Front::placed_front), unfolding(crate::specs::Replies::written))]
 pub fn write(reply: Reply, out: &mut [u8]) -> usize
     ensures { written_of result out.new ≡ written (reply_of reply) out.old }
 {

@@ -7,6 +7,7 @@ ghost use Rattle.bench_writer.specs.Placing.{Placed};
 use crate::parts;
 
 // What a batch gave: its count, and the vectors held.
+#[tactic(auto, using(crate::proofs::PlacingLaws::placed_both))]
 pub fn put_batch(out: &mut [u8], word: &[u8], count: u64, held: u64) -> usize
     requires { (room ≤ length out.old) × (length word.now ≤ length refused_word) }
     ensures { Placed out.old 0 (labelled_two word.now count held_word held ++ newline) out.new result }
@@ -26,6 +27,7 @@ pub fn put_pass(out: &mut [u8], sqn: u64, left: u64) -> usize
 }
 
 // A word and a number, and nothing else.
+#[tactic(auto, using(crate::proofs::PlacingLaws::placed_both))]
 pub fn put_numbered(out: &mut [u8], word: &[u8], number: u64) -> usize
     requires { (room ≤ length out.old) × (length word.now ≤ length refused_word) }
     ensures { Placed out.old 0 (labelled word.now number ++ newline) out.new result }
