@@ -13,6 +13,7 @@ use vlr_record::{Outcome, Reply, State, Vlr, queue};
 // ---- records that follow
 
 // A batch is added behind what is held.
+#[tactic(auto, unfolding(aka::specs::Vlr::queued))]
 pub fn queued(vlr: Vlr, kind: Kind, count: u64, batch: &[u8]) -> Vlr
     requires room { vlr.held + count ≤ spec.most_held }
     requires size { length batch.now ≡ item_size (kind_of kind) * count }
@@ -30,6 +31,7 @@ pub fn queued(vlr: Vlr, kind: Kind, count: u64, batch: &[u8]) -> Vlr
 }
 
 // The oldest becomes outstanding.
+#[tactic(auto, unfolding(aka::specs::Vlr::oldest_out))]
 pub fn oldest_out(vlr: Vlr) -> Vlr
     requires { 0 < vlr.held }
     ensures { vlr_of result ≡ spec.oldest_out (vlr_of vlr) }
@@ -44,6 +46,7 @@ pub fn oldest_out(vlr: Vlr) -> Vlr
 }
 
 // Another state, where nothing is outstanding.
+#[tactic(auto, unfolding(aka::specs::Vlr::none_out))]
 pub fn none_out(state: State, vlr: Vlr) -> Vlr
     ensures { vlr_of result ≡ spec.none_out (state_of state) (vlr_of vlr) }
 {
@@ -82,6 +85,7 @@ pub fn to_idle(outcome: Outcome, vlr: Vlr) -> Reply
 }
 
 // The refusal's answer, or, where its number is 0, this one.
+#[tactic(auto, using(crate::proofs::Refused::refusal, crate::proofs::Refused::none))]
 pub fn unless_refused(vlr: Vlr, number: u8, reply: Reply) -> Reply
     ensures { answer_of result ≡ spec.unless_refused (vlr_of vlr) number (answer_of reply) }
 {
@@ -92,6 +96,7 @@ pub fn unless_refused(vlr: Vlr, number: u8, reply: Reply) -> Reply
 }
 
 // RAND and AUTN of the outstanding item are given.
+#[tactic(auto, unfolding(aka::specs::Vlr::request))]
 pub fn request(vlr: Vlr) -> Reply
     ensures { answer_of result ≡ spec.request (vlr_of vlr) }
 {
@@ -109,6 +114,7 @@ pub fn request(vlr: Vlr) -> Reply
 }
 
 // Whether RES is XRES or SRES of the outstanding item. It looks at all octets whatever they are.
+#[tactic(auto, unfolding(aka::specs::Vlr::res_right))]
 pub fn res_right(vlr: Vlr, res: &[u8]) -> bool
     requires { length res.now ≡ spec.res_size_of (spec.kind_in vlr.out) }
     ensures { result ≡ spec.res_right (vlr_of vlr) res.now }
@@ -118,6 +124,7 @@ pub fn res_right(vlr: Vlr, res: &[u8]) -> bool
 }
 
 // The keys are given where RES is right: CK and IK of a vector, Kc of a triplet.
+#[tactic(auto, unfolding(aka::specs::Vlr::pass_if))]
 pub fn pass_if(vlr: Vlr, right: bool) -> Reply
     ensures { answer_of result ≡ spec.pass_if (vlr_of vlr) right }
 {
@@ -138,6 +145,7 @@ pub fn pass_if(vlr: Vlr, right: bool) -> Reply
 }
 
 // RAND of the outstanding vector is given with AUTS.
+#[tactic(auto, unfolding(aka::specs::Vlr::resync_request))]
 pub fn resync_request(vlr: Vlr, auts: &[u8]) -> Reply
     requires { length auts.now ≡ auts_size }
     ensures { answer_of result ≡ spec.resync_request (vlr_of vlr) auts.now }
