@@ -19,7 +19,7 @@ use functions::Keys;
 use pairs::Pair;
 
 // `seqhe` is SEQ_HE, `next` the next index.
-#[derive(Drop)]
+#[derive(Clone, Copy, Drop)]
 pub struct Auc {
     pub edition: u8,
     pub keys: Keys,
@@ -29,7 +29,7 @@ pub struct Auc {
 }
 
 // A batch: of an order, or of a resynchronisation that kept SEQ_HE or reset it. A refusal has its number; refusal 4 has its pair.
-#[derive(Drop)]
+#[derive(Clone, Copy, Drop)]
 pub enum Outcome {
     Given,
     Kept,
@@ -39,7 +39,7 @@ pub enum Outcome {
 }
 
 // `n` is the number of vectors given, `auc` the next record.
-#[derive(Drop)]
+#[derive(Clone, Copy, Drop)]
 pub struct Answer {
     pub outcome: Outcome,
     pub n: u8,
@@ -47,7 +47,7 @@ pub struct Answer {
 }
 
 // Refusals 1 to 4: the outcome where one of them applies, else the count that results.
-#[derive(Drop)]
+#[derive(Clone, Copy, Drop)]
 pub enum Checked {
     Count(u8),
     Refused(Outcome),
@@ -67,6 +67,7 @@ pub fn new(edition: u8, keys: Keys, amf: [u8; aka::AMF_SIZE]) -> Auc
 }
 
 // Whether refusal 1 does not apply.
+#[tactic(auto, unfolding(aka::specs::Auc::valid_auc))]
 pub fn is_valid(auc: Auc) -> bool
     ensures { result ≡ valid_auc editions sets (auc_of auc) }
 {

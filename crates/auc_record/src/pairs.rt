@@ -6,7 +6,7 @@ ghost use Rattle.aka.specs.Auc.{equal_pair};
 ghost use Rattle.auc_record.specs.Views.{pair_of};
 
 // No two RANDs are equal, or those at these places are.
-#[derive(Drop)]
+#[derive(Clone, Copy, Drop)]
 pub enum Pair {
     Unequal,
     EqualAt(u8, u8),
