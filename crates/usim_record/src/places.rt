@@ -5,6 +5,7 @@ ghost use Rattle.aka.specs.Editions.{card_places};
 ghost use Rattle.aka.specs.Usim.{all_within, fresh, highest as highest_of, lowest_index};
 
 // Whether no place is above the limit.
+#[tactic(auto, using(octets::proofs::Parts::drop_next), unfolding(aka::specs::Usim::all_within))]
 pub fn within(places: [u64; editions::PLACES], limit: u64) -> bool
     ensures { result ≡ all_within limit places }
 {
@@ -19,6 +20,7 @@ pub fn within(places: [u64; editions::PLACES], limit: u64) -> bool
 }
 
 // Whether the places from `from` on are 0.
+#[tactic(auto, using(octets::proofs::Parts::drop_next), unfolding(aka::specs::Layout::all_zero))]
 pub fn zero_from(places: [u64; editions::PLACES], from: usize) -> bool
     ensures { result ≡ all_zero (drop from places) }
 {
@@ -33,6 +35,7 @@ pub fn zero_from(places: [u64; editions::PLACES], from: usize) -> bool
 }
 
 // SEQ_MS: the highest place.
+#[tactic(auto, using(octets::proofs::Parts::drop_next), unfolding(aka::specs::Usim::highest))]
 pub fn highest(places: [u64; editions::PLACES]) -> u64
     ensures { result ≡ highest_of places }
 {
@@ -48,6 +51,7 @@ pub fn highest(places: [u64; editions::PLACES]) -> u64
 }
 
 // The lowest index that holds `seq`, and the number of places where none does.
+#[tactic(auto, using(octets::proofs::Parts::drop_next), unfolding(aka::specs::Usim::lowest_index))]
 pub fn lowest_index(places: [u64; editions::PLACES], seq: u64) -> usize
     ensures { (result ≡ lowest_index seq places) × (result ≤ card_places) }
 {
@@ -72,6 +76,7 @@ pub fn sqn_ms(places: [u64; editions::PLACES], indices: u64) -> u64
 }
 
 // Whether SEQ is above the place at IND, and not more than D above SEQ_MS.
+#[tactic(auto, unfolding(aka::specs::Usim::fresh))]
 pub fn is_fresh(places: [u64; editions::PLACES], seq: u64, ind: usize) -> bool
     requires { ind < card_places }
     ensures { result ≡ fresh places seq ind }
