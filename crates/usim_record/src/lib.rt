@@ -13,7 +13,7 @@ use functions::Keys;
 pub mod places;
 
 // The places of the card hold a SEQ for each index of its edition, and zeros behind them.
-#[derive(Drop)]
+#[derive(Clone, Copy, Drop)]
 pub struct Usim {
     pub edition: u8,
     pub keys: Keys,
@@ -21,7 +21,7 @@ pub struct Usim {
 }
 
 // An acceptance has its SQN, a refusal its number.
-#[derive(Drop)]
+#[derive(Clone, Copy, Drop)]
 pub enum Verdict {
     Accepted(u64),
     Sync,
@@ -30,7 +30,7 @@ pub enum Verdict {
 }
 
 // `usim` is the next record. Octets that the verdict does not give are zero.
-#[derive(Drop)]
+#[derive(Clone, Copy, Drop)]
 pub struct Answer {
     pub verdict: Verdict,
     pub usim: Usim,
@@ -52,6 +52,7 @@ pub fn new(edition: u8, keys: Keys) -> Usim
 }
 
 // Whether refusal 1 does not apply.
+#[tactic(auto, unfolding(aka::specs::Usim::valid_usim))]
 pub fn is_valid(usim: Usim) -> bool
     ensures { result ≡ valid_usim editions sets (usim_of usim) }
 {
