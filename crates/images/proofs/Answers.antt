@@ -6,7 +6,7 @@ use lib.ListN.{length}
 use Rattle.octets.specs.Octets.{Octets}
 use Rattle.aka.specs.Editions.{is_edition}
 use Rattle.images.specs.Head.{edition_in}
-use Rattle.images.specs.Images.{Format, Written, Read, write_answer, read_answer, refused_read}
+use Rattle.images.specs.Images.{Format, write_answer, read_answer, refused_read}
 
 module _ {R : Type 0} (format : Format R) where
   module _ (r : R) (buffer : Octets) where
