@@ -1,0 +1,12 @@
+-- `encrypted` is AES: the calls' equations, put together.
+use Rattle.std.proofs.Common.{ap, ◌∙◌}
+use mathlib.Core.Path.{ap₂}
+use Rattle.aes_schedule.specs.KeyExpansion.{key_expansion}
+use Rattle.aes.specs.Cipher.{aes, cipher}
+use Rattle.aes_vectors.proofs.encrypted.Goals as goal
+
+pub returns : goal.returns
+unfolding aes
+returns c =
+    let key = c.key_expansion-w.ensures ∙ ap key_expansion c.from_octets.ensures in
+    c.to_octets.ensures ∙ c.encrypt.ensures ∙ ap₂ cipher key c.from_octets-2.ensures
