@@ -17,7 +17,7 @@ ghost use Rattle.batches.specs.Views.{counted_by, offset_in, start_in};
 use functions::Keys;
 
 // What the vectors of a batch are made with: their SEQ follow `from`, and `next` is the index of the first.
-#[derive(Drop)]
+#[derive(Clone, Copy, Drop)]
 pub struct Series {
     pub edition: u8,
     pub keys: Keys,
@@ -27,7 +27,7 @@ pub struct Series {
 }
 
 // Where a vector begins in a batch; `Nowhere` stands for refusal 3.
-#[derive(Drop)]
+#[derive(Clone, Copy, Drop)]
 pub enum Offset {
     At(usize),
     Nowhere,
@@ -115,6 +115,7 @@ pub fn is_batch(size: usize) -> bool
 }
 
 // Where the vector at place k begins in a batch of `size` octets.
+#[tactic(auto, unfolding(aka::specs::Layout::is_place, aka::specs::Layout::vector_offset))]
 pub fn offset_of(size: usize, k: u64) -> Offset
     ensures { offset_in result ≡ vector_offset size k }
 {
