@@ -15,6 +15,7 @@ ghost use Rattle.calls.specs.Program.{AnyAnswer};
 
 use call_lines::{call, text};
 use console::Progress;
+use std::io::{Read, Write};
 use vlr::Vlr;
 use vlr_calls::Answered;
 
@@ -67,7 +68,14 @@ fn put_answer(node: Vlr, line: &[u8], out: &mut [u8], p: Progress) -> Turn
 }
 
 // Answers every line of the input. A proved loop has to end, so this one counts its turns down, from a number that no run uses up.
-fn answer_all(piece: &mut [u8], line: &mut [u8], out: &mut [u8]) -> Turn
+fn answer_all<R: Read, W: Write, E: Write>(
+    input: &mut R,
+    output: &mut W,
+    errors: &mut E,
+    piece: &mut [u8],
+    line: &mut [u8],
+    out: &mut [u8],
+) -> Turn
     requires { 2 * (longest_answer + 1) ≤ length out.old }
     ensures { Ran AnyAnswer new_vlr (length line.old) (length out.old)
         (vlr_of result.node) (standing_of piece.new line.new out.new result.progress) }
@@ -76,7 +84,7 @@ fn answer_all(piece: &mut [u8], line: &mut [u8], out: &mut [u8]) -> Turn
     let mut p = console::begin();
     let mut turns = u64::MAX;
     while turns > 0 {
-        p = console::advance(piece, line, out, p);
+        p = console::advance(input, output, errors, piece, line, out, p);
         if console::is_ended(p) {
             return Turn { node, progress: p };
         }
@@ -89,9 +97,16 @@ fn answer_all(piece: &mut [u8], line: &mut [u8], out: &mut [u8]) -> Turn
 }
 
 // A line is held up to one byte more than the longest that is answered, so that a longer one is seen to be longer.
-fn main() {
+fn main(rt: HostRuntime) {
     let mut piece = io::large_buffer();
     let mut line = [0u8; call::LONGEST + 1];
     let mut out = io::large_buffer();
-    answer_all(&mut piece, &mut line, &mut out);
+    answer_all(
+        &mut rt.stdin(),
+        &mut rt.stdout(),
+        &mut rt.stderr(),
+        &mut piece,
+        &mut line,
+        &mut out,
+    );
 }
