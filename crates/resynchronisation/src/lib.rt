@@ -17,7 +17,7 @@ ghost use Rattle.resynchronisation.specs.Rulings.{Ruled};
 use functions::{Challenge, Keys};
 
 // `refused`: out of range and MAC-S wrong, refusal 5. `kept`: SEQ_HE is in range. `from`: SEQ_HE, kept or reset, which the batch follows.
-#[derive(Drop)]
+#[derive(Clone, Copy, Drop)]
 pub struct Ruling {
     pub refused: bool,
     pub kept: bool,
@@ -25,6 +25,7 @@ pub struct Ruling {
 }
 
 // Whether SEQ_HE is at least SEQ_MS and no number of the batch passes SEQ_MS + D.
+#[tactic(auto, unfolding(aka::specs::Auc::in_range))]
 fn in_range(seqhe: u64, seqms: u64, n: u8) -> bool
     requires { (n ≤ most_vectors) × (seqhe < 2 ^ sqn_bits) × (seqms < 2 ^ sqn_bits) }
     ensures { result ≡ in_range seqhe seqms n }

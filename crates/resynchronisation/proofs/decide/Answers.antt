@@ -1,0 +1,40 @@
+-- `decide` keeps SEQ_HE in range, and otherwise verifies MAC-S and resets it.
+use Rattle.std.proofs.Common.{ℕ, false, not, ◌/◌, ◌≤◌, ◌≡◌, sym, ap, ap₂, ◌∙◌, subst, arith}
+use Rattle.octets.specs.Octets.{decode}
+use Rattle.functions.specs.Challenge.{keys_of}
+use Rattle.functions.specs.Sets.{sets}
+use Rattle.aka.specs.Sequence.{FitsSqn, width_of, indices, limit}
+use Rattle.aka.specs.Editions.{editions}
+use Rattle.aka.specs.Auc.{in_range, seq_ms_in}
+use Rattle.aka.proofs.Editions.{fitting, limit_below}
+use Rattle.aka.proofs.Sequence.{seq_le}
+use Rattle.resynchronisation.proofs.decide.Goals as goal
+
+-- the SEQ of 48 bits is within its limit
+within : (edition number n : ℕ) → n ≡ indices (width_of editions edition) → FitsSqn number → number / n ≤ limit (width_of editions edition)
+within edition number n e fits =
+    subst (λ (k : ℕ). number / k ≤ limit (width_of editions edition)) (sym e)
+    (seq_le (width_of editions edition) (fitting.width edition) number fits)
+
+pub in_range-requires : goal.in_range-requires
+in_range-requires c =
+    let below = limit_below c.args.edition in
+    let seq = within c.args.edition c.sqn_number.result c.row-m.result.indices c.row-m.ensures.indices.number c.sqn_number.ensures.1 in
+    (c.requires.room.0, omega (arith, below), omega (arith, below))
+
+pub returns : goal.returns
+returns c =
+    let a = c.args in
+    let w = width_of editions a.edition in
+    let F = sets.under (keys_of a.keys) in
+    let sqn_is = c.sqn_ms-sqn.ensures (keys_of a.keys) a.rand c.prepare-c.ensures in
+    let ms_is : c.sqn_number.result / c.row-m.result.indices ≡ seq_ms_in w F a.rand a.auts
+    = ap₂ (λ (x n : ℕ). x / n) (c.sqn_number.ensures.0 ∙ ap decode sqn_is) c.row-m.ensures.indices.number in
+    let reset : in_range a.seqhe (seq_ms_in w F a.rand a.auts) a.n ≡ false
+    = ap (λ (m : ℕ). in_range a.seqhe m a.n) (sym ms_is) ∙ sym c.if-in_range.ensures in
+    record {
+      refused = rw reset (ap not (c.mac_s_right-right.ensures (keys_of a.keys) a.rand c.prepare-c.ensures sqn_is));
+      kept = sym reset;
+      from = rw reset ms_is;
+      within = within a.edition c.sqn_number.result c.row-m.result.indices c.row-m.ensures.indices.number c.sqn_number.ensures.1;
+    }
