@@ -18,6 +18,7 @@ use vlr_steps::{
 };
 
 // Store (not in Resyncing) adds a batch behind.
+#[tactic(auto, using(vlr_refusals::proofs::Refusals::store_fits), unfolding(aka::specs::Vlr::store, aka::specs::Vlr::unless_refused))]
 pub fn store(vlr: Vlr, kind: Kind, count: u64, batch: &[u8]) -> Reply
     ensures { answer_of result ≡ spec.store (vlr_of vlr) (kind_of kind) count batch.now }
 {
@@ -29,6 +30,7 @@ pub fn store(vlr: Vlr, kind: Kind, count: u64, batch: &[u8]) -> Reply
 }
 
 // Ask (Idle) takes the oldest, vector or triplet.
+#[tactic(auto, using(vlr_refusals::proofs::Refusals::ask_held), unfolding(aka::specs::Vlr::ask, aka::specs::Vlr::unless_refused))]
 pub fn ask(vlr: Vlr) -> Reply
     ensures { answer_of result ≡ spec.ask (vlr_of vlr) }
 {
@@ -40,6 +42,7 @@ pub fn ask(vlr: Vlr) -> Reply
 }
 
 // Again (Asked) gives the same RAND and AUTN.
+#[tactic(auto, unfolding(aka::specs::Vlr::again, aka::specs::Vlr::unless_refused))]
 pub fn again(vlr: Vlr) -> Reply
     ensures { answer_of result ≡ spec.again (vlr_of vlr) }
 {
@@ -47,6 +50,7 @@ pub fn again(vlr: Vlr) -> Reply
 }
 
 // Answer (Asked): RES equal to XRES passes with CK and IK; on a triplet, to SRES with Kc.
+#[tactic(auto, unfolding(aka::specs::Vlr::answer, aka::specs::Vlr::unless_refused))]
 pub fn answer(vlr: Vlr, res: &[u8]) -> Reply
     ensures { answer_of result ≡ spec.answer (vlr_of vlr) res.now }
 {
@@ -58,6 +62,7 @@ pub fn answer(vlr: Vlr, res: &[u8]) -> Reply
 }
 
 // Reject (Asked): the USIM found MAC wrong.
+#[tactic(auto, unfolding(aka::specs::Vlr::reject, aka::specs::Vlr::unless_refused))]
 pub fn reject(vlr: Vlr) -> Reply
     ensures { answer_of result ≡ spec.reject (vlr_of vlr) }
 {
@@ -69,6 +74,7 @@ pub fn reject(vlr: Vlr) -> Reply
 }
 
 // Sync (Asked, and a vector is out) gives RAND with AUTS, for the AuC.
+#[tactic(auto, using(vlr_refusals::proofs::Refusals::sync_length), unfolding(aka::specs::Vlr::sync, aka::specs::Vlr::unless_refused))]
 pub fn sync(vlr: Vlr, auts: &[u8]) -> Reply
     ensures { answer_of result ≡ spec.sync (vlr_of vlr) auts.now }
 {
@@ -80,6 +86,7 @@ pub fn sync(vlr: Vlr, auts: &[u8]) -> Reply
 }
 
 // Renew (Resyncing) drops all that is held and stores the batch.
+#[tactic(auto, using(vlr_refusals::proofs::Refusals::renew_fits), unfolding(aka::specs::Vlr::renew, aka::specs::Vlr::unless_refused))]
 pub fn renew(vlr: Vlr, kind: Kind, count: u64, batch: &[u8]) -> Reply
     ensures { answer_of result ≡ spec.renew (vlr_of vlr) (kind_of kind) count batch.now }
 {
@@ -91,6 +98,7 @@ pub fn renew(vlr: Vlr, kind: Kind, count: u64, batch: &[u8]) -> Reply
 }
 
 // Timeout (Resyncing): Idle, what is held is kept.
+#[tactic(auto, unfolding(aka::specs::Vlr::timeout, aka::specs::Vlr::unless_refused))]
 pub fn timeout(vlr: Vlr) -> Reply
     ensures { answer_of result ≡ spec.timeout (vlr_of vlr) }
 {
@@ -98,6 +106,7 @@ pub fn timeout(vlr: Vlr) -> Reply
 }
 
 // Abandon (Asked): Idle.
+#[tactic(auto, unfolding(aka::specs::Vlr::abandon, aka::specs::Vlr::unless_refused))]
 pub fn abandon(vlr: Vlr) -> Reply
     ensures { answer_of result ≡ spec.abandon (vlr_of vlr) }
 {

@@ -85,7 +85,7 @@ pub fn to_idle(outcome: Outcome, vlr: Vlr) -> Reply
 }
 
 // The refusal's answer, or, where its number is 0, this one.
-#[tactic(auto, using(crate::proofs::Refused::refusal, crate::proofs::Refused::none))]
+#[tactic(auto, unfolding(aka::specs::Vlr::unless_refused))]
 pub fn unless_refused(vlr: Vlr, number: u8, reply: Reply) -> Reply
     ensures { answer_of result ≡ spec.unless_refused (vlr_of vlr) number (answer_of reply) }
 {
