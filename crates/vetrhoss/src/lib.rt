@@ -12,6 +12,7 @@ use interface_answers::{auc_answer, buffers, results, usim_answer};
 use usim::Verdict;
 
 // OPc of K and OP.
+#[tactic(auto, using(interface_answers::proofs::Sizes::key_sizes), unfolding(crate::specs::Interface::opc_call))]
 #[unsafe(no_mangle)]
 pub extern "C" fn vetrhoss_opc(k: &[u8], op: &[u8], opc: &mut [u8]) -> u64
     ensures { record { result = result; octets = opc.new } ≡ opc_call k.now op.now opc.old }
