@@ -8,7 +8,7 @@ ghost use Rattle.aka.specs.Handset as spec;
 ghost use Rattle.handset_store.specs.Views.{store_of, outcome_of, is_accepted, source_in, start_of, written_of};
 
 // The stored answer once more, or what the card says. A refusal has its number.
-#[derive(Drop)]
+#[derive(Clone, Copy, Drop)]
 pub enum Outcome {
     Repeated,
     Accepted,
@@ -26,7 +26,7 @@ enum Source {
 }
 
 // A store after a call that writes it: the number of a refusal, 0 for none, and the mark.
-#[derive(Drop)]
+#[derive(Clone, Copy, Drop)]
 pub struct Written {
     pub refusal: u8,
     pub held: bool,
