@@ -68,6 +68,7 @@ fn fill(batch: &[u8], n: usize, triplets: &mut [u8])
 }
 
 // Whether refusal 3 does not apply.
+#[tactic(auto, unfolding(aka::specs::Triplets::sizes_fit))]
 fn sizes_fit(batch: usize, buffer: usize) -> bool
     ensures { result ≡ sizes_fit batch buffer }
 {
