@@ -10,7 +10,8 @@ use native.Mathlib.Omega.{arith}
 use lib.ListN.{replicate, set, drop}
 use Rattle.octets.specs.Octets.{Octets, xor, part, equal, turn_left, encode, digits, spelt}
 use Rattle.octets.proofs.Absurd.{zero_not_one}
-use Rattle.aka.specs.Layout.{all_zero, vector_size, vector_at, write_autn, read_autn, write_auts, read_auts, write_vector, read_vector, joined}
+use Rattle.aka.specs.Layout.{all_zero, vector_size, vector_at, joined}
+use Rattle.aka.specs.Layout.{write_autn, read_autn, write_auts, read_auts, write_vector, read_vector}
 use Rattle.aka.specs.Functions.{Shaped}
 use Rattle.aka.specs.Sequence.{width_of, indices, limit, sqn_of}
 use Rattle.aka.specs.Editions.{editions, is_edition, row_of}
@@ -121,10 +122,11 @@ not_refused : refused 3 ≡ accepted → ⊥
 not_refused e = zero_not_one (cc)
 
 pub computed : Computed
-unfolding is_edition row_of is_set sets test_outputs base_of outputs outputs_of challenge verdict_on judgement answer_with valid_usim lengths_right
-    mac_right fresh highest lowest_index all_within all_zero make_auts make_autn write_autn read_autn write_auts read_auts xor equal digits
-    spelt pair_from pair_with valid_auc auc.answer_with lent_for lent_auts unless_refused unless_past in_range mac_s_right auts_outcome resync_outcome
-    resync batch_from make_vector write_vector read_vector joined turn_left answers_to place_from carries
+unfolding is_edition row_of is_set sets test_outputs base_of outputs outputs_of challenge verdict_on judgement answer_with
+    valid_usim lengths_right mac_right fresh highest lowest_index all_within all_zero make_auts make_autn write_autn read_autn
+    write_auts read_auts xor equal digits spelt pair_from pair_with valid_auc auc.answer_with lent_for lent_auts unless_refused
+    unless_past in_range mac_s_right auts_outcome resync_outcome resync batch_from make_vector write_vector read_vector joined
+    turn_left answers_to place_from carries
 computed = record {
   autn = refl;
   res = refl;
