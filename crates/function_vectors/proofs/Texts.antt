@@ -1,8 +1,8 @@
 -- What is read from a line and written for it. Assumes nothing.
 use Prim.Native.Nat.{ℕ, ◌+◌, ◌-◌, ◌*◌, ◌≤◌}
-use mathlib.Core.Bool.{Bool, true, false, ◌&&◌, cond, and-eq-true_iff}
+use mathlib.Core.Bool.{Bool, true, false, ◌&&◌, and-eq-true_iff}
 use mathlib.Core.List.{List, [], ◌∷◌, ◌++◌, append_assoc}
-use mathlib.Core.Path.{◌≡◌, refl, sym, ap, ap₂, ◌∙◌}
+use mathlib.Core.Path.{◌≡◌, sym, ap, ap₂, ◌∙◌}
 use native.Mathlib.Numerals.{add-one}
 use native.Mathlib.Omega.{arith}
 use borrow.Author.Tests.{eq-eqb, ne_eqb}
@@ -20,8 +20,8 @@ use Rattle.functions.specs.Sets.{is_set, sets}
 use Rattle.function_vectors.specs.declared.Outputs.{Outputs}
 use Rattle.function_vectors.specs.Outputs.{Answers}
 use Rattle.aka.specs.Layout.{key_size, rand_size, sqn_size, amf_size}
-use Rattle.function_vectors.specs.Answer.{amf_at, answer_text, challenge_formed, k_at, keys_formed, keys_on, line_size, opc_at, rand_at, sqn_at}
-use Rattle.function_vectors.specs.Answer.{outputs_of, outputs_text, well_formed}
+use Rattle.function_vectors.specs.Answer.{amf_at, answer_text, challenge_formed, k_at, keys_formed, keys_on, line_size, opc_at}
+use Rattle.function_vectors.specs.Answer.{outputs_of, outputs_text, rand_at, sqn_at, well_formed}
 
 -- octets in hex and a byte behind them, put into a text
 pub put_hex : (text octets : List ℕ) (used end : ℕ) {part : List ℕ} → used + 2 * length octets + 1 ≤ length text → part ≡ hex octets
@@ -53,7 +53,8 @@ unfolding read_field_into
 field old line at l e = rw (l, e)
 
 -- the fields of a line whose keys and challenge are well formed
-pub keys_are : (line : List ℕ) → keys_formed line ≡ true → (is_hex_field key_size k_at line ≡ true) × (is_hex_field key_size opc_at line ≡ true)
+pub keys_are : (line : List ℕ) → keys_formed line ≡ true
+    → (is_hex_field key_size k_at line ≡ true) × (is_hex_field key_size opc_at line ≡ true)
 unfolding keys_formed
 keys_are line e =
     let digit = leb 48 (get_or line 0 0) && leb (get_or line 0 0) 57 in
@@ -71,7 +72,8 @@ pub challenge_is : (line : List ℕ) → challenge_formed line ≡ true
     → (is_hex_field rand_size rand_at line ≡ true) × (is_hex_field sqn_size sqn_at line ≡ true) × (is_hex_field amf_size amf_at line ≡ true)
 unfolding challenge_formed
 challenge_is line e =
-    let first = (and-eq-true_iff (is_hex_field rand_size rand_at line) (is_hex_field sqn_size sqn_at line && is_hex_field amf_size amf_at line)).0 e in
+    let others = is_hex_field sqn_size sqn_at line && is_hex_field amf_size amf_at line in
+    let first = (and-eq-true_iff (is_hex_field rand_size rand_at line) others).0 e in
     let rest = (and-eq-true_iff (is_hex_field sqn_size sqn_at line) (is_hex_field amf_size amf_at line)).0 first.1 in
     (first.0, rest.0, rest.1)
 

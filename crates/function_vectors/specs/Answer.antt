@@ -31,7 +31,8 @@ abbrev pub line_size : ℕ
 line_size = amf_at + hex_field_size amf_size
 
 unfoldable pub keys_formed : List ℕ → Bool
-keys_formed line = leb 48 (get_or line 0 0) && leb (get_or line 0 0) 57 && (is_hex_field key_size k_at line && is_hex_field key_size opc_at line)
+keys_formed line =
+    leb 48 (get_or line 0 0) && leb (get_or line 0 0) 57 && (is_hex_field key_size k_at line && is_hex_field key_size opc_at line)
 
 unfoldable pub challenge_formed : List ℕ → Bool
 challenge_formed line = is_hex_field rand_size rand_at line && (is_hex_field sqn_size sqn_at line && is_hex_field amf_size amf_at line)
@@ -71,7 +72,8 @@ unfoldable pub answer_text : List ℕ → List ℕ
 answer_text line =
     cond (well_formed line)
     (cond (is_set (keys_on line).set)
-    (outputs_of (sets.under (keys_on line)) (octets_in rand_size rand_at line) (octets_in sqn_size sqn_at line) (octets_in amf_size amf_at line))
+    (outputs_of (sets.under (keys_on line))
+    (octets_in rand_size rand_at line) (octets_in sqn_size sqn_at line) (octets_in amf_size amf_at line))
     (ascii "refused 1\n"))
     (ascii "bad line\n")
 

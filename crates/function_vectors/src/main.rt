@@ -18,6 +18,7 @@ ghost use Rattle.function_vectors.specs.Answer.{answer_text, challenge_formed, k
 
 use console::Progress;
 use functions::Keys;
+use std::io::{Read, Write};
 
 // Where the fields of a line begin, each with the space before it, and the bytes of a line that is well formed.
 const K_AT: usize = 1;
@@ -254,7 +255,15 @@ fn answer(table: &[u32; 256], line: &[u8], out: &mut [u8], p: Progress) -> Progr
 }
 
 // Answers every line of the input. A proved loop has to end, so this one counts its turns down, from a number that no run uses up.
-fn answer_all(table: &[u32; 256], piece: &mut [u8], line: &mut [u8], out: &mut [u8]) -> Progress
+fn answer_all<R: Read, W: Write, E: Write>(
+    input: &mut R,
+    output: &mut W,
+    errors: &mut E,
+    table: &[u32; 256],
+    piece: &mut [u8],
+    line: &mut [u8],
+    out: &mut [u8],
+) -> Progress
     requires table { IsRoundTable table.now }
     requires line { line_size < length line.old }
     requires out { 2 * room ≤ length out.old }
@@ -264,7 +273,7 @@ fn answer_all(table: &[u32; 256], piece: &mut [u8], line: &mut [u8], out: &mut [
     let mut p = console::begin();
     let mut turns = u64::MAX;
     while turns > 0 {
-        p = console::advance(piece, line, out, p);
+        p = console::advance(input, output, errors, piece, line, out, p);
         if console::is_ended(p) {
             return p;
         }
@@ -275,10 +284,18 @@ fn answer_all(table: &[u32; 256], piece: &mut [u8], line: &mut [u8], out: &mut [
 }
 
 // A line is held up to one byte more than a good line has, so that a longer one is seen to be longer.
-fn main() {
+fn main(rt: HostRuntime) {
     let table = aes::round_table();
     let mut piece = io::large_buffer();
     let mut line = [0u8; LINE_SIZE + 1];
     let mut out = io::large_buffer();
-    answer_all(&table, &mut piece, &mut line, &mut out);
+    answer_all(
+        &mut rt.stdin(),
+        &mut rt.stdout(),
+        &mut rt.stderr(),
+        &table,
+        &mut piece,
+        &mut line,
+        &mut out,
+    );
 }

@@ -8,8 +8,9 @@ use Rattle.aes_vectors.proofs.answer.Goals as goal
 
 pub returns-then-not-p : goal.returns-then-not-p
 returns-then-not-p c piece =
+    let p = c.args.p in
     let out = c.args.out.now in
-    not_answered (Gives line_answer) (length out) c.args.p.ready tt (standing_of piece c.args.line.now out c.args.p) (not-true _ c.if-not-p.true)
+    not_answered (Gives line_answer) (length out) p.ready tt (standing_of piece c.args.line.now out p) (not-true _ c.if-not-p.true)
 
 pub returns : goal.returns
 unfolding line_answer
