@@ -139,6 +139,7 @@ fn resume(
 }
 
 // Whether RAND and AUTS have their lengths.
+#[tactic(auto, unfolding(aka::specs::Auc::lent_auts))]
 fn auts_fits(rand: &[u8], auts: &[u8]) -> bool
     ensures { result ≡ lent_auts (length rand.now) (length auts.now) }
 {
