@@ -1,7 +1,7 @@
 -- The packed image of an AuC's record (document 01: centre), most significant bit first: edition, set, K and OPc, then AMF, then SEQ_HE and
 -- the next index. Document 01, 'Numbers and records'; document 02, #104. What writing and reading it answer: `images`, of `format`.
 -- Assumes nothing: these are definitions.
-use Rattle.std.specs.Prelude.{ℕ, ◌+◌, ◌*◌, List, ◌++◌}
+use Rattle.std.specs.Prelude.{ℕ, ◌+◌, List, ◌++◌}
 use Rattle.octets.specs.Octets.{Octets, zeros, part, digits, number, encode, decode}
 use Rattle.aka.specs.Layout.{amf_size, sqn_size}
 use Rattle.aka.specs.Functions.{Family}
