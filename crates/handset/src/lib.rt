@@ -18,7 +18,7 @@ use handset_store::{is_accepted, lengths_right, repeats};
 use usim::{Usim, Verdict};
 
 // What the first call tells, besides the fresh octets: `usim` is the card's next record. AUTS is zero but with a synchronisation failure.
-#[derive(Drop)]
+#[derive(Clone, Copy, Drop)]
 pub struct Told {
     pub outcome: Outcome,
     pub usim: Usim,

@@ -6,7 +6,7 @@ use Rattle.functions.proofs.Family.{lawful}
 use Rattle.functions.proofs.Protocol.{handset_holds, repeated_challenge_holds}
 use Rattle.aka.specs.Editions.{editions}
 use Rattle.aka.specs.Demand3.{Each}
-use Rattle.aka.specs.Handset.{Store, HandsetAnswer, Told, Written, challenged, told, in_order}
+use Rattle.aka.specs.Handset.{Store, HandsetAnswer, Told, Written, challenged, in_order}
 use Rattle.aka.specs.RepeatedChallenge as aka
 use Rattle.usim_record.specs.Views.{usim_of}
 use Rattle.handset.specs.Views.{told_of}
