@@ -1,10 +1,10 @@
 -- The image of a USIM and its reader undo each other, so that reading and writing give back what the other took. Assumes nothing.
-use Prim.Native.Nat.{ℕ, ◌+◌, ◌-◌, ◌*◌, ◌^◌, ◌<◌, ◌≤◌}
+use Prim.Native.Nat.{ℕ, ◌-◌, ◌*◌, ◌^◌, ◌≤◌}
 use mathlib.Core.Bool.{true}
 use mathlib.Core.List.{List, ◌++◌}
 use mathlib.Core.Path.{◌≡◌, refl, sym, ap, ap₂, ◌∙◌, subst}
 use native.Mathlib.Omega.{arith}
-use lib.ListN.{length, get_or, take, drop, length-append, length-take, length-drop, take-append-drop}
+use lib.ListN.{length, take, drop, length-append, length-take, length-drop, take-append-drop}
 use lib.Pow.{pow_pos}
 use lib.Seq.{take_at, drop_at, get_or-take}
 use Rattle.octets.specs.Octets.{Octets, Below, zeros, part, digits, number, encode, decode}
@@ -15,8 +15,8 @@ use Rattle.functions.specs.Sets.{sets}
 use Rattle.aka.specs.Functions.{Family}
 use Rattle.aka.specs.Layout.{all_zero}
 use Rattle.aka.specs.Sequence.{Scheme, Fitting, width_of, indices, limit, seq_bits}
-use Rattle.aka.specs.Editions.{editions, is_edition, row_of, card_places}
-use Rattle.aka.specs.Usim.{Usim, all_within, valid_usim, UsimShaped}
+use Rattle.aka.specs.Editions.{editions, is_edition, row_of}
+use Rattle.aka.specs.Usim.{Usim, valid_usim, UsimShaped}
 use Rattle.aka.proofs.Editions.{fitting, each_row}
 use Rattle.aka.proofs.Held.{all_zeros, zeros_are}
 use Rattle.aka.proofs.Places.{within_below, within_append, zeros_within}

@@ -27,7 +27,7 @@ pub const MOST: usize = PLACES_AT + editions::MOST_OCTETS;
 const ROOM: usize = editions::MOST_OCTETS + 8;
 
 // `refusal` is 0 where the record was read; otherwise the record is zero.
-#[derive(Drop)]
+#[derive(Clone, Copy, Drop)]
 pub struct ReadAnswer {
     pub refusal: u8,
     pub usim: Usim,
@@ -57,6 +57,7 @@ fn put_places(image: &mut [u8], edition: u8, places: [u64; editions::PLACES])
 }
 
 // Fills an image with a valid record.
+#[tactic(auto, using(aka::proofs::Verdicts::valid_parts, aka::proofs::Places::within_below))]
 fn fill(usim: Usim, image: &mut [u8])
     requires valid { valid_usim editions sets (usim_of usim) ≡ true }
     requires size { length image.old ≡ image_size (width_of editions usim.edition) }
@@ -69,6 +70,7 @@ fn fill(usim: Usim, image: &mut [u8])
 }
 
 // Writes the image of `usim`: 0, or the refusal's number, and then the buffer is as it was.
+#[tactic(auto, unfolding(images::specs::Images::write_answer))]
 pub fn write(usim: Usim, buffer: &mut [u8]) -> u8
     ensures { written_of result buffer.new ≡ write_answer (format editions sets) (usim_of usim) buffer.old }
 {
@@ -119,6 +121,7 @@ fn refused_read(number: u8) -> ReadAnswer
 }
 
 // Reads an image of any length and contents.
+#[tactic(auto, unfolding(images::specs::Images::read_answer))]
 pub fn read(image: &[u8]) -> ReadAnswer
     ensures { read_of result ≡ read_answer (format editions sets) image.now }
 {
