@@ -20,7 +20,7 @@ use vlr::{Outcome, Vlr};
 pub const EDITION: u8 = 1;
 
 // `rand` and `auts` are zero when there was no AUTS.
-#[derive(Drop)]
+#[derive(Clone, Copy, Drop)]
 pub struct Desk {
     pub usim: Usim,
     pub auc: Auc,
@@ -30,13 +30,14 @@ pub struct Desk {
 }
 
 // The desk after a step, and what is answered.
-#[derive(Drop)]
+#[derive(Clone, Copy, Drop)]
 pub struct DeskAnswer {
     pub desk: Desk,
     pub reply: Reply,
 }
 
 // Everything new, with keys and AMF.
+#[tactic(auto, unfolding(crate::specs::Desk::new_desk))]
 pub fn new(keys: Keys, amf: [u8; aka::AMF_SIZE]) -> Desk
     ensures { desk_of result ≡ new_desk (keys_of keys) amf }
 {
@@ -50,6 +51,7 @@ pub fn new(keys: Keys, amf: [u8; aka::AMF_SIZE]) -> Desk
 }
 
 // Other records, and the last AUTS as it was.
+#[tactic(auto, unfolding(crate::specs::Desk::with_records))]
 pub fn with_records(desk: Desk, usim: Usim, auc: Auc, vlr: Vlr) -> Desk
     ensures { desk_of result ≡ with_records (desk_of desk) (usim_of usim) (auc_of auc) (vlr_of vlr) }
 {
@@ -65,6 +67,7 @@ pub fn with_records(desk: Desk, usim: Usim, auc: Auc, vlr: Vlr) -> Desk
 }
 
 // A refusal: card, centre and node all stay as before.
+#[tactic(auto, unfolding(crate::specs::Desk::refused_by))]
 pub fn refused(desk: Desk, number: u8) -> DeskAnswer
     ensures { desk_answer_of result ≡ refused_by (desk_of desk) number }
 {
@@ -87,6 +90,7 @@ pub fn node_refusal(outcome: Outcome) -> u8
 }
 
 // Another SEQ_HE and next index.
+#[tactic(auto, unfolding(crate::specs::Desk::with_counters))]
 fn with_counters(desk: Desk, seqhe: u64, next: u8) -> Desk
     ensures { desk_of result ≡ with_counters (desk_of desk) seqhe next }
 {
@@ -110,6 +114,7 @@ fn with_counters(desk: Desk, seqhe: u64, next: u8) -> Desk
 }
 
 // Another SEQ_HE and next index, within their ranges.
+#[tactic(auto, unfolding(crate::specs::Desk::put, crate::specs::Desk::refused_or))]
 pub fn put(desk: Desk, seqhe: u64, next: u64) -> DeskAnswer
     ensures { desk_answer_of result ≡ put_of (desk_of desk) seqhe next }
 {
@@ -128,6 +133,7 @@ pub fn put(desk: Desk, seqhe: u64, next: u64) -> DeskAnswer
 }
 
 // The counters of centre and card.
+#[tactic(auto, unfolding(crate::specs::Desk::show))]
 pub fn show(desk: Desk) -> DeskAnswer
     ensures { desk_answer_of result ≡ show_of (desk_of desk) }
 {
