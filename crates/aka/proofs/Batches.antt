@@ -6,7 +6,8 @@ use native.Mathlib.Omega.{arith}
 use lib.Dec.{eqb}
 use lib.ListN.{length}
 use Rattle.octets.specs.Octets.{Octets}
-use Rattle.aka.specs.Layout.{Vector, rand_size, amf_size, vector_size, most_vectors, rand_at, octets_at, vector_at, write_vector, read_vector}
+use Rattle.aka.specs.Layout.{Vector, rand_size, amf_size, vector_size, most_vectors, rand_at, octets_at, vector_at, write_vector}
+use Rattle.aka.specs.Layout.{read_vector}
 use Rattle.aka.specs.Functions.{Family, Lengths}
 use Rattle.aka.specs.Sequence.{Numbering, Scheme, sqn_of}
 use Rattle.aka.specs.Auc.{Auc, count_of, seq_at, ind_at, vector_from, batch_from}

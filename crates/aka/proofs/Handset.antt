@@ -78,7 +78,8 @@ module _ (usim : Usim) (store : Store) (rand fresh : Octets) (o : Outcome) (auts
   abbrev silent : HandsetAnswer
   silent = nothing_shown usim store fresh o auts
 
-  nothing_kept : ((same : Bool) → source_of o same ≡ nowhere) → after o store rand fresh ≡ store → in_order (told silent) store rand ≡ silent
+  nothing_kept : ((same : Bool) → source_of o same ≡ nowhere) → after o store rand fresh ≡ store
+      → in_order (told silent) store rand ≡ silent
   unfolding source keep
   nothing_kept none stays = go (parts_right store rand fresh) refl
     where

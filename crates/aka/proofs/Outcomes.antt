@@ -13,7 +13,8 @@ use Rattle.aka.specs.Functions.{Functions, Family}
 use Rattle.aka.specs.Sequence.{D, Scheme, width_of, indices, limit}
 use Rattle.aka.specs.AucLaws.{Range}
 use Rattle.aka.specs.Auc.{Auc, AucAnswer, Pair, unequal, equal_at, Outcome, given, kept, reset, refused, repeated, refusal_of}
-use Rattle.aka.specs.Auc.{valid_auc, order_count, resync_count, equal_pair, lent_for, lent_auts, in_range, kept_or_reset, mac_s_right, seq_ms_in}
+use Rattle.aka.specs.Auc.{valid_auc, order_count, resync_count, equal_pair, lent_for, lent_auts, in_range, kept_or_reset}
+use Rattle.aka.specs.Auc.{mac_s_right, seq_ms_in}
 use Rattle.aka.specs.Auc.{unless_repeated, unless_refused, unless_past, given_with, refused_with, answer_with, order_outcome, order}
 use Rattle.aka.specs.Auc.{resync_from, auts_outcome, resync_outcome, resync}
 
@@ -221,7 +222,8 @@ module _ (scheme : Scheme) (family : Family) (auc : Auc) where
           ∙ auts_on rand auts n (not_five (range rand auts n) (mac_s_right (family.under auc.keys) rand auts) right)
           ∙ not_past (from rand auts n) n told room)
 
-      pub resync_given : resync scheme family auc count rands buffer rand auts ≡ given_with scheme family auc (from rand auts n) rands n told
+      pub resync_given : resync scheme family auc count rands buffer rand auts
+          ≡ given_with scheme family auc (from rand auts n) rands n told
       unfolding resync
       resync_given =
           rw resync_outcome_lem (answer_given scheme family auc (from rand auts n) rands n buffer told (told_batch (range rand auts n)))

@@ -62,7 +62,8 @@ module _ (rands : Octets) where
   with_equal i j zero a b e = absurd (no_pair e)
   with_equal i j (suc left) a b e = go (equal (rand_at rands i) (rand_at rands j)) refl e (with_equal i (j + 1) left a b)
     where
-      go : (t : Bool) → equal (rand_at rands i) (rand_at rands j) ≡ t → cond t (equal_at i j) (pair_with rands i (j + 1) left) ≡ equal_at a b
+      go : (t : Bool) → equal (rand_at rands i) (rand_at rands j) ≡ t
+          → cond t (equal_at i j) (pair_with rands i (j + 1) left) ≡ equal_at a b
           → (pair_with rands i (j + 1) left ≡ equal_at a b → With i (j + 1) left a b) → With i j (suc left) a b
       go true t q ih =
           let at : j ≡ b = second_of q in

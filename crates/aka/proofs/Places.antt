@@ -137,7 +137,8 @@ zeros_set n l i x h e = rw (drop-set-lt n l i x h) e
 
 -- the lowest index that holds the highest is no place behind: there it would be 0, and index 0 would hold it too
 pub lowest_inside : (n : ℕ) (l : List ℕ) → 0 < n → n ≤ length l → all_zero (drop n l) ≡ true → lowest_index (highest l) l < n
-lowest_inside n l some long zeros = go (lowest_index (highest l) l) (highest_lowest l (omega arith)) (leb n (lowest_index (highest l) l)) refl
+lowest_inside n l some long zeros =
+    go (lowest_index (highest l) l) (highest_lowest l (omega arith)) (leb n (lowest_index (highest l) l)) refl
   where
     go : (i : ℕ) → Lowest (highest l) l i → (b : Bool) → leb n i ≡ b → i < n
     go i low true e =

@@ -85,7 +85,11 @@ module _ (scheme : Scheme) (family : Family) (auc : Auc) (count₀ : ℕ) (rands
       let both = (and-eq-true_iff (lent_for N (length rands) (length buffer)) (lent_auts (length rand) (length auts))).0 e in
       let of_batch = (lent_iff N (length rands) (length buffer)).0 both.0 in
       let of_auts = (lent_auts_iff (length rand) (length auts)).0 both.1 in
-      record { sizes = record { rands_size_lem = of_batch.0; buffer_size = of_batch.1 }; rand_size_lem = of_auts.0; auts_size_lem = of_auts.1 }
+      record {
+        sizes = record { rands_size_lem = of_batch.0; buffer_size = of_batch.1 };
+        rand_size_lem = of_auts.0;
+        auts_size_lem = of_auts.1;
+      }
 
   sized_true : Sizes → lent ≡ true
   sized_true l = (and-eq-true_iff (lent_for N (length rands) (length buffer)) (lent_auts (length rand) (length auts))).1 (

@@ -16,7 +16,8 @@ use Rattle.octets.proofs.Refusals.{passed}
 use Rattle.aka.specs.Layout.{all_zero, rand_size, autn_size, amf_size, auts_size, sqn_size}
 use Rattle.aka.specs.Functions.{Functions, Family, Lengths, dummy_amf}
 use Rattle.aka.specs.Sequence.{D, Scheme, Fitting, width_of, FitsSqn, indices, limit, sqn_of}
-use Rattle.aka.specs.Usim.{Usim, UsimAnswer, highest, sqn_ms, all_within, valid_usim, lengths_right, sqn_in, seq_in, ind_in, mac_right, fresh}
+use Rattle.aka.specs.Usim.{Usim, UsimAnswer, highest, sqn_ms, all_within, valid_usim, lengths_right, sqn_in, seq_in, ind_in}
+use Rattle.aka.specs.Usim.{mac_right, fresh}
 use Rattle.aka.specs.Usim.{Verdict, accepted, mac_failure, sync_failure, refused}
 use Rattle.aka.specs.Usim.{make_auts, stored, unchanged, judgement, verdict_on, answer_with, challenge}
 use Rattle.aka.specs.Auc.{make_autn}

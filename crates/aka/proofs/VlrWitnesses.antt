@@ -8,7 +8,8 @@ use Rattle.octets.specs.Octets.{Octets, equal}
 use Rattle.aka.specs.Layout.{Vector, Triplet, vector, triplet, write_vector, read_vector, write_triplet, read_triplet, joined}
 use Rattle.aka.specs.Vlr.{Vlr, State, idle, asked, resyncing, done, passed, cause, refused, most_held, place_size, new_vlr, all_zero}
 use Rattle.aka.specs.Vlr.{vector_run, triplet_run, good_place, good_places, valid_vlr, count_fits, batch_fits, refusal_or, unless_refused}
-use Rattle.aka.specs.Vlr.{queued, oldest_out, none_out, request, store_refusal, ask_refusal, asked_refusal, res_right, pass_if, sync_refusal}
+use Rattle.aka.specs.Vlr.{queued, oldest_out, none_out, request, store_refusal, ask_refusal, asked_refusal, res_right, pass_if}
+use Rattle.aka.specs.Vlr.{sync_refusal}
 use Rattle.aka.specs.Vlr.{resync_request, renew_refusal, timeout_refusal}
 use Rattle.aka.specs.Vlr as node
 use Rattle.aka.specs.Calls.{Call, reply, store, renew, ask, again, answer, sync, reject, timeout, abandon}
@@ -204,10 +205,10 @@ pub record Computed : Type 0 where
   pub kind_2_out : (node.again (asking 2 0)).outcome ≡ refused 1
 
 pub computed : Computed
-unfolding node.store node.renew node.ask node.again node.answer node.sync node.reject node.timeout node.abandon store_refusal ask_refusal
-    asked_refusal sync_refusal renew_refusal timeout_refusal unless_refused refusal_or valid_vlr good_place good_places all_zero count_fits batch_fits
-    queued oldest_out none_out request res_right pass_if resync_request equal vector_run triplet_run read_vector write_vector read_triplet
-    write_triplet joined answers told is_in is_unused unused_from leave
+unfolding node.store node.renew node.ask node.again node.answer node.sync node.reject node.timeout node.abandon store_refusal
+    ask_refusal asked_refusal sync_refusal renew_refusal timeout_refusal unless_refused refusal_or valid_vlr good_place good_places
+    all_zero count_fits batch_fits queued oldest_out none_out request res_right pass_if resync_request equal vector_run triplet_run
+    read_vector write_vector read_triplet write_triplet joined answers told is_in is_unused unused_from leave
 computed = record {
   outcomes = refl;
   rands = refl;

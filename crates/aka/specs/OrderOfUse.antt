@@ -5,7 +5,8 @@
 -- The calls that were taken tell a history, and the history alone tells everything else: which call the node must take and which it must
 -- refuse, every octet that it gives, and its whole record. Read `History`, `adds` (what a call does to it) and `Meets` (what is promised
 -- of one call).
-use Rattle.std.specs.Prelude.{ℕ, zero, suc, ◌+◌, ◌-◌, ◌*◌, ◌<◌, Bool, true, false, ◌||◌, not, cond, List, [], ◌∷◌, ◌++◌, map, ◌↔◌, ◌≡◌, eqb, length}
+use Rattle.std.specs.Prelude.{ℕ, zero, suc, ◌+◌, ◌-◌, ◌*◌, ◌<◌, Bool, true, false, ◌||◌, not, cond, List, [], ◌∷◌, ◌++◌, map, ◌↔◌}
+use Rattle.std.specs.Prelude.{◌≡◌, eqb, length}
 use Rattle.std.proofs.Math.Option.{Option, none, some}
 use Rattle.octets.specs.Octets.{Octets, zeros}
 use Rattle.aka.specs.Layout.{Kind}

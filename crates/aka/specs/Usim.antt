@@ -1,7 +1,8 @@
 -- The USIM (document 01: card): its record, and its whole answer to a challenge of any octets.
 -- TS 33.102 §6.3.3, in the order of its figure 9, and Annex C.2, where document 01 has a place for each index in place of a list; document
 -- 01, 'What the card does'; document 02, #104. `w` is the width of the index IND in bits. Assumes nothing.
-use Rattle.std.specs.Prelude.{ℕ, suc, ◌-◌, max, Bool, true, ◌&&◌, ◌||◌, not, cond, List, [], ◌∷◌, ◌≡◌, eqb, ltb, leb, length, get_or, replicate, set, drop}
+use Rattle.std.specs.Prelude.{ℕ, suc, ◌-◌, max, Bool, true, ◌&&◌, ◌||◌, not, cond, List, [], ◌∷◌, ◌≡◌, eqb, ltb, leb, length}
+use Rattle.std.specs.Prelude.{get_or, replicate, set, drop}
 use Rattle.octets.specs.Octets.{Octets, zeros, xor, equal, encode, decode}
 use Rattle.aka.specs.Layout.{rand_size, autn_size, res_size, ck_size, ik_size, sqn_size, auts_size, all_zero, read_autn, write_auts}
 use Rattle.aka.specs.Functions.{Keys, Shaped, Functions, Family, dummy_amf}

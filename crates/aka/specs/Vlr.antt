@@ -1,6 +1,7 @@
 -- The serving node, VLR or SGSN (document 01: node): its record, and its whole answer to each of its nine operations.
 -- TS 33.102 §6.3.3, §6.3.5 and §6.8; document 01, 'What the node does' and 'Refusal numbers'; document 02, #102. Assumes nothing.
-use Rattle.std.specs.Prelude.{ℕ, zero, suc, ◌+◌, ◌-◌, ◌*◌, Bool, true, false, ◌&&◌, ◌||◌, not, cond, [], ◌∷◌, ◌++◌, eqb, leb, length, get_or, take, drop}
+use Rattle.std.specs.Prelude.{ℕ, zero, suc, ◌+◌, ◌-◌, ◌*◌, Bool, true, false, ◌&&◌, ◌||◌, not, cond, [], ◌∷◌, ◌++◌, eqb, leb}
+use Rattle.std.specs.Prelude.{length, get_or, take, drop}
 use Rattle.octets.specs.Octets.{Octets, zeros, part, equal}
 use Rattle.aka.specs.Layout.{Vector, Triplet, Kind, vector, triplet, kind_size, kind_octet, item_size, vector_size, read_vector}
 unfoldable pub use Rattle.aka.specs.Layout.{all_zero}

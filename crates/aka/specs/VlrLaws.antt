@@ -5,7 +5,8 @@ use Rattle.octets.specs.Octets.{Octets, zeros}
 use Rattle.aka.specs.Layout.{Kind, vector, triplet, kind_octet, item_size, rand_size, ck_size, ik_size, autn_size, auts_size, kc_size}
 use Rattle.aka.specs.Layout.{most_vectors}
 use Rattle.aka.specs.Vlr.{Vlr, VlrAnswer, State, idle, asked, resyncing, done, passed, cause, refused, refusal_of, cause_of, most_held}
-use Rattle.aka.specs.Vlr.{place_size, placed, place_at, item_of, kind_in, item_in, Run, run_of, run_in, res_size_of, no_item, new_vlr, batch_good}
+use Rattle.aka.specs.Vlr.{place_size, placed, place_at, item_of, kind_in, item_in, Run, run_of, run_in, res_size_of, no_item}
+use Rattle.aka.specs.Vlr.{new_vlr, batch_good}
 use Rattle.aka.specs.Vlr.{valid_vlr, no_octets, out_run}
 use Rattle.aka.specs.Calls.{Call, reply, store, renew, ask, again, answer, sync, reject, timeout, abandon}
 

@@ -95,7 +95,8 @@ fn sync(desk: Desk, vlr: Vlr, auts: [u8; aka::AUTS_SIZE]) -> DeskAnswer
 // A verdict other than acceptance: the node has Sync or Reject, or the card refuses.
 pub fn failure(desk: Desk, vlr: Vlr, answer: Answer) -> DeskAnswer
     requires { Failed (verdict_of answer.verdict) }
-    ensures { (sqn : ℕ) → desk_answer_of result ≡ on_verdict (desk_of desk) (vlr_of vlr) (card_answer_of answer) sqn (verdict_of answer.verdict) }
+    ensures { (sqn : ℕ) → desk_answer_of result
+        ≡ on_verdict (desk_of desk) (vlr_of vlr) (card_answer_of answer) sqn (verdict_of answer.verdict) }
 {
     let verdict = answer.verdict;
     let auts = answer.auts;

@@ -40,7 +40,9 @@ module _ (from : ℕ) (line : List ℕ) where
   unfolding rand_octets
   put_rand i before {out} {x} size is is_x =
       let next : rand_size * i + rand_size ≡ rand_size * (i + 1) = omega arith in
-      let rest : drop (rand_size * i + rand_size) (rand_octets i from line ++ drop (rand_size * i) before) ≡ drop (rand_size * (i + 1)) before =
+      let rest :
+          drop (rand_size * i + rand_size) (rand_octets i from line ++ drop (rand_size * i) before)
+          ≡ drop (rand_size * (i + 1)) before =
       ap (λ (n : ℕ). drop (n + rand_size) (rand_octets i from line ++ drop (rand_size * i) before)) (sym size)
       ∙ drop-append-add (rand_octets i from line) (drop (rand_size * i) before) rand_size
       ∙ drop-drop rand_size (rand_size * i) before
@@ -66,7 +68,8 @@ module _ (at : ℕ) (line : List ℕ) where
   unfolding count_at
   count_high h = rw (lt-leb (decimal_digit (get_or line at 0)) most_vectors h, and-false (leb 1 (decimal_digit (get_or line at 0))))
 
-  pub count_is : 49 ≤ get_or line at 0 → decimal_digit (get_or line at 0) ≤ most_vectors → decimal_digit (get_or line at 0) ≡ count_at at line
+  pub count_is : 49 ≤ get_or line at 0 → decimal_digit (get_or line at 0) ≤ most_vectors
+      → decimal_digit (get_or line at 0) ≡ count_at at line
   unfolding count_at
   count_is h g = rw (le-leb 1 (decimal_digit (get_or line at 0)) (omega arith), le-leb (decimal_digit (get_or line at 0)) most_vectors g)
 

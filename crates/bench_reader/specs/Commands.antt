@@ -3,7 +3,8 @@
 use Rattle.std.specs.Prelude.{ℕ, zero, suc, ◌+◌, ◌-◌, ◌*◌, Bool, true, ◌&&◌, cond, List, [], ◌++◌, eqb, leb, ltb, length, get_or, drop}
 use Rattle.octets.specs.Ascii.{ascii}
 use Rattle.octets.specs.Octets.{Octets, zeros}
-use Rattle.fields.specs.Fields.{field, end_of, begins, hex_field_size, is_hex_field, octets_in, is_decimal_digit, decimal_digit, decimal, is_decimal}
+use Rattle.fields.specs.Fields.{field, end_of, begins, hex_field_size, is_hex_field, octets_in, is_decimal_digit, decimal_digit}
+use Rattle.fields.specs.Fields.{decimal, is_decimal}
 use Rattle.aka.specs.Layout.{key_size, amf_size, rand_size, most_vectors}
 
 -- ---- what a line asks for

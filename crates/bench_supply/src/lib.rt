@@ -32,7 +32,8 @@ fn centre_refusal(outcome: auc::Outcome) -> u8
 
 // Both records go on; where one side refuses, the desk stays, and the centre's refusal is told first.
 fn with_batch(desk: Desk, a: auc::Answer, v: vlr::Reply, reply: Reply) -> DeskAnswer
-    ensures { (batch : Octets) → desk_answer_of result ≡ with_batch (desk_of desk) (auc_answer_of a batch) (vlr_answer_of v) (reply_of reply) }
+    ensures { (batch : Octets) → desk_answer_of result
+        ≡ with_batch (desk_of desk) (auc_answer_of a batch) (vlr_answer_of v) (reply_of reply) }
 {
     let from_centre = a.outcome;
     let from_node = v.outcome;

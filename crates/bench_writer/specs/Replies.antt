@@ -110,7 +110,8 @@ text_of sync = sync_text
 text_of mac = mac_text
 text_of (cause number) = labelled cause_word number ++ newline
 text_of (refused number) = labelled refused_word number ++ newline
-text_of (shown seqhe next seqms index) = (labelled_two auc_word seqhe space_word next ++ labelled_two card_word seqms space_word index) ++ newline
+text_of (shown seqhe next seqms index) =
+    (labelled_two auc_word seqhe space_word next ++ labelled_two card_word seqms space_word index) ++ newline
 
 -- ---- written to a buffer
 

@@ -11,9 +11,11 @@ use Rattle.functions.specs.Sets.{is_set, sets, test_outputs, base_of, outputs, o
 use Rattle.functions.specs.SampleRun.{k, z, amf, autn, auts}
 use Rattle.functions.specs.declared.Keys.{Keys}
 use Rattle.aka.specs.Layout.{all_zero, write_autn, read_autn, write_auts, read_auts, write_vector, read_vector, joined}
-use Rattle.aka.specs.Usim.{challenge, verdict_on, judgement, answer_with, valid_usim, lengths_right, mac_right, fresh, highest, lowest_index}
+use Rattle.aka.specs.Usim.{challenge, verdict_on, judgement, answer_with, valid_usim, lengths_right, mac_right, fresh, highest}
+use Rattle.aka.specs.Usim.{lowest_index}
 use Rattle.aka.specs.Usim.{all_within, make_auts}
-use Rattle.aka.specs.Auc.{valid_auc, make_autn, make_vector, batch_from, pair_with, pair_from, lent_for, lent_auts, unless_refused, unless_past}
+use Rattle.aka.specs.Auc.{valid_auc, make_autn, make_vector, batch_from, pair_with, pair_from, lent_for, lent_auts, unless_refused}
+use Rattle.aka.specs.Auc.{unless_past}
 use Rattle.aka.specs.Auc.{in_range, mac_s_right, auts_outcome, resync_outcome, resync}
 use Rattle.aka.specs.Auc as auc
 use Rattle.aka.specs.Demand3 as aka
@@ -65,10 +67,10 @@ lost = record {
 }
 
 ran : Ran lost
-unfolding is_edition row_of is_set sets test_outputs base_of outputs outputs_of challenge verdict_on judgement answer_with valid_usim lengths_right
-    mac_right fresh highest lowest_index all_within all_zero make_auts make_autn write_autn read_autn write_auts read_auts xor equal digits
-    spelt pair_from pair_with valid_auc auc.answer_with lent_for lent_auts unless_refused unless_past in_range mac_s_right auts_outcome resync_outcome
-    resync batch_from make_vector write_vector read_vector joined turn_left
+unfolding is_edition row_of is_set sets test_outputs base_of outputs outputs_of challenge verdict_on judgement answer_with valid_usim
+    lengths_right mac_right fresh highest lowest_index all_within all_zero make_auts make_autn write_autn read_autn write_auts read_auts
+    xor equal digits spelt pair_from pair_with valid_auc auc.answer_with lent_for lent_auts unless_refused unless_past in_range
+    mac_s_right auts_outcome resync_outcome resync batch_from make_vector write_vector read_vector joined turn_left
 ran = record {
   failure = record {
     answer_is = refl;
@@ -79,9 +81,9 @@ ran = record {
 }
 
 premise : aka.Premise editions sets (setting_of lost)
-unfolding is_edition row_of is_set sets test_outputs base_of outputs outputs_of challenge verdict_on judgement answer_with valid_usim lengths_right
-    mac_right fresh highest lowest_index all_within all_zero make_auts make_autn write_autn read_autn write_auts read_auts xor equal digits
-    spelt pair_from pair_with valid_auc turn_left
+unfolding is_edition row_of is_set sets test_outputs base_of outputs outputs_of challenge verdict_on judgement answer_with valid_usim
+    lengths_right mac_right fresh highest lowest_index all_within all_zero make_auts make_autn write_autn read_autn write_auts read_auts
+    xor equal digits spelt pair_from pair_with valid_auc turn_left
 premise = record {
   usim_valid = refl;
   auc_valid = refl;

@@ -8,7 +8,8 @@ use lib.ListN.{replicate}
 use Rattle.octets.specs.Octets.{Octets, zeros, equal}
 use Rattle.aka.specs.Layout.{vector, triplet, write_vector, read_vector, write_triplet, read_triplet, joined}
 use Rattle.aka.specs.Vlr.{place_size, placed, vector_run, triplet_run, good_place, good_places, all_zero, valid_vlr, count_fits, batch_fits}
-use Rattle.aka.specs.Vlr.{refusal_or, unless_refused, queued, oldest_out, none_out, request, store_refusal, ask_refusal, asked_refusal, res_right}
+use Rattle.aka.specs.Vlr.{refusal_or, unless_refused, queued, oldest_out, none_out, request, store_refusal, ask_refusal}
+use Rattle.aka.specs.Vlr.{asked_refusal, res_right}
 use Rattle.aka.specs.Vlr.{pass_if, sync_refusal, resync_request, renew_refusal}
 use Rattle.aka.specs.Vlr as node
 use Rattle.aka.specs.Calls.{store, renew, ask, again, answer, sync}
@@ -113,8 +114,8 @@ new = refl
 
 chain : Chain fresh calls
 unfolding Chain node.store node.renew node.ask node.again node.answer node.sync store_refusal ask_refusal asked_refusal sync_refusal
-    renew_refusal unless_refused refusal_or valid_vlr good_place good_places all_zero count_fits batch_fits queued oldest_out none_out request res_right
-    pass_if resync_request equal vector_run triplet_run read_vector write_vector read_triplet write_triplet joined
+    renew_refusal unless_refused refusal_or valid_vlr good_place good_places all_zero count_fits batch_fits queued oldest_out none_out
+    request res_right pass_if resync_request equal vector_run triplet_run read_vector write_vector read_triplet write_triplet joined
 chain = (
   refl,
   (refl, (refl, (refl, (refl, (refl, (refl, (refl, (refl, (refl, (refl, (refl, (refl, (refl, tt))))))))))))),

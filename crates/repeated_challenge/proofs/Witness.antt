@@ -10,7 +10,8 @@ use Rattle.octets.specs.Octets.{Octets, zeros, xor, equal, turn_left, digits, sp
 use Rattle.functions.specs.Sets.{is_set, sets, test_outputs, base_of, outputs, outputs_of}
 use Rattle.functions.specs.SampleRun.{k, z, autn, res, ck, ik, auts}
 use Rattle.aka.specs.Layout.{all_zero, write_autn, read_autn, write_auts, read_auts, write_answer}
-use Rattle.aka.specs.Usim.{challenge, verdict_on, judgement, answer_with, valid_usim, lengths_right, mac_right, fresh, highest, lowest_index}
+use Rattle.aka.specs.Usim.{challenge, verdict_on, judgement, answer_with, valid_usim, lengths_right, mac_right, fresh, highest}
+use Rattle.aka.specs.Usim.{lowest_index}
 use Rattle.aka.specs.Usim.{UsimShaped, all_within, make_auts}
 use Rattle.aka.specs.Editions.{editions, card_places, is_edition, row_of}
 use Rattle.aka.specs.Handset as handset
@@ -103,10 +104,10 @@ abbrev phone : Phone
 phone = record { voice = handset.cleared; packets = handset.cleared }
 
 chain : Chain phone calls
-unfolding Chain is_edition row_of is_set sets test_outputs base_of outputs outputs_of challenge verdict_on judgement answer_with valid_usim
-    lengths_right mac_right fresh highest lowest_index all_within all_zero make_auts write_autn read_autn write_auts read_auts write_answer xor equal
-    digits spelt turn_left handset.repeats handset.parts_right handset.outcome_on handset.answer_with handset.challenged handset.source
-    handset.keep handset.clear
+unfolding Chain is_edition row_of is_set sets test_outputs base_of outputs outputs_of challenge verdict_on judgement answer_with
+    valid_usim lengths_right mac_right fresh highest lowest_index all_within all_zero make_auts write_autn read_autn write_auts
+    read_auts write_answer xor equal digits spelt turn_left handset.repeats handset.parts_right handset.outcome_on handset.answer_with
+    handset.challenged handset.source handset.keep handset.clear
 chain = (
   three (shaped 0 _ refl) refl refl refl,
   (

@@ -13,7 +13,8 @@ use Rattle.aka.specs.Layout.{Vector, all_zero, vector_at, write_autn, read_autn,
 use Rattle.aka.specs.Layout.{write_vector, read_vector, joined}
 use Rattle.aka.specs.Sequence.{width_of, sqn_of}
 use Rattle.aka.specs.Editions.{editions, is_edition, row_of}
-use Rattle.aka.specs.Usim.{sync_failure, accepted, challenge, verdict_on, judgement, answer_with, valid_usim, lengths_right, mac_right, fresh}
+use Rattle.aka.specs.Usim.{sync_failure, accepted, challenge, verdict_on, judgement, answer_with, valid_usim, lengths_right}
+use Rattle.aka.specs.Usim.{mac_right, fresh}
 use Rattle.aka.specs.Usim.{highest, lowest_index, all_within, make_auts}
 use Rattle.aka.specs.Functions.{dummy_amf}
 use Rattle.aka.specs.Auc.{Auc, valid_auc, make_autn, make_vector, batch_from, pair_with, pair_from, lent_for, unless_refused, unless_past}
@@ -40,10 +41,10 @@ abbrev blocked : Stand
 blocked = run editions sets (beginning editions sets (auc_with 2 7 7)) (ordering 1 z (zeros 72) ∷ challenging z foreign ∷ [])
 
 foreign_blocks : Open editions sets blocked → ⊥
-unfolding is_edition row_of is_set sets test_outputs base_of outputs outputs_of challenge verdict_on judgement answer_with valid_usim lengths_right
-    mac_right fresh highest lowest_index all_within all_zero make_autn write_autn read_autn xor equal digits spelt pair_from pair_with valid_auc
-    auc.answer_with lent_for unless_refused unless_past order_outcome order batch_from make_vector write_vector read_vector joined turn_left vectors_in
-    after run
+unfolding is_edition row_of is_set sets test_outputs base_of outputs outputs_of challenge verdict_on judgement answer_with valid_usim
+    lengths_right mac_right fresh highest lowest_index all_within all_zero make_autn write_autn read_autn xor equal digits spelt
+    pair_from pair_with valid_auc auc.answer_with lent_for unless_refused unless_past order_outcome order batch_from make_vector
+    write_vector read_vector joined turn_left vectors_in after run
 foreign_blocks is_open =
     not_sync (is_open 0 one refl (omega arith) (λ among. ⊎_elim (λ e. omega (arith, e)) (λ none. none) among) (omega arith)).verdict
 
@@ -62,18 +63,18 @@ abbrev late : Stand
 late = run editions sets (beginning editions sets (auc_with 1 0 0)) late_run
 
 first_blocks : Open editions sets late → ⊥
-unfolding is_edition row_of is_set sets test_outputs base_of outputs outputs_of challenge verdict_on judgement answer_with valid_usim lengths_right
-    mac_right fresh highest lowest_index all_within all_zero make_autn write_autn read_autn xor equal digits spelt pair_from pair_with valid_auc
-    auc.answer_with lent_for unless_refused unless_past order_outcome order batch_from make_vector write_vector read_vector joined turn_left vectors_in
-    after run
+unfolding is_edition row_of is_set sets test_outputs base_of outputs outputs_of challenge verdict_on judgement answer_with valid_usim
+    lengths_right mac_right fresh highest lowest_index all_within all_zero make_autn write_autn read_autn xor equal digits spelt
+    pair_from pair_with valid_auc auc.answer_with lent_for unless_refused unless_past order_outcome order batch_from make_vector
+    write_vector read_vector joined turn_left vectors_in after run
 first_blocks is_open =
     not_sync (is_open 0 (vec 0) refl (omega arith) (λ among. ⊎_elim (λ e. omega (arith, e)) (λ none. none) among) (omega arith)).verdict
 
 -- its other premises are met
 first_proper : AllProper editions sets (beginning editions sets (auc_with 1 0 0)) late_run
-unfolding is_edition row_of is_set sets test_outputs base_of outputs outputs_of make_autn write_autn read_autn xor equal digits spelt pair_from
-    pair_with valid_auc auc.answer_with lent_for unless_refused unless_past order_outcome order batch_from make_vector write_vector read_vector joined
-    turn_left vectors_in after AllProper
+unfolding is_edition row_of is_set sets test_outputs base_of outputs outputs_of make_autn write_autn read_autn xor equal digits spelt
+    pair_from pair_with valid_auc auc.answer_with lent_for unless_refused unless_past order_outcome order batch_from make_vector
+    write_vector read_vector joined turn_left vectors_in after AllProper
 first_proper = (tt, (λ e. (1, vec 1, refl, refl), tt))
 
 -- ---- a reset between. The highest number that a new card takes, 268435456, has index 0, and is accepted; AUTS of the card as it was new
@@ -100,9 +101,10 @@ reset_run =
     ∷ five ∷ five ∷ five ∷ five ∷ five ∷ five ∷ five ∷ five ∷ five ∷ five ∷ five ∷ []
 
 reset_blocks : Open editions sets (run editions sets (beginning editions sets (auc_with 2 268435455 0)) reset_run) → ⊥
-unfolding is_edition row_of is_set sets test_outputs base_of outputs outputs_of challenge verdict_on judgement answer_with valid_usim lengths_right
-    mac_right fresh highest lowest_index all_within all_zero make_autn write_autn read_autn xor equal digits spelt pair_from pair_with valid_auc
-    auc.answer_with lent_for unless_refused unless_past order_outcome order batch_from make_vector write_vector read_vector joined turn_left vectors_in
-    after run make_auts write_auts read_auts lent_auts in_range mac_s_right auts_outcome resync_outcome resync
+unfolding is_edition row_of is_set sets test_outputs base_of outputs outputs_of challenge verdict_on judgement answer_with valid_usim
+    lengths_right mac_right fresh highest lowest_index all_within all_zero make_autn write_autn read_autn xor equal digits spelt
+    pair_from pair_with valid_auc auc.answer_with lent_for unless_refused unless_past order_outcome order batch_from make_vector
+    write_vector read_vector joined turn_left vectors_in after run make_auts write_auts read_auts lent_auts in_range mac_s_right
+    auts_outcome resync_outcome resync
 reset_blocks is_open =
     not_sync (is_open 64 low refl (omega arith) (λ among. ⊎_elim (λ e. omega (arith, e)) (λ none. none) among) (omega arith)).verdict

@@ -14,9 +14,11 @@ use Rattle.functions.specs.declared.Keys.{Keys}
 use Rattle.aka.specs.Layout.{Vector, all_zero, vector_at, write_autn, read_autn, write_auts, read_auts, write_vector, read_vector, joined}
 use Rattle.aka.specs.Sequence.{sqn_of}
 use Rattle.aka.specs.Editions.{editions, card_places, is_edition, row_of}
-use Rattle.aka.specs.Usim.{challenge, verdict_on, judgement, answer_with, valid_usim, lengths_right, mac_right, fresh, highest, lowest_index}
+use Rattle.aka.specs.Usim.{challenge, verdict_on, judgement, answer_with, valid_usim, lengths_right, mac_right, fresh, highest}
+use Rattle.aka.specs.Usim.{lowest_index}
 use Rattle.aka.specs.Usim.{all_within, make_auts}
-use Rattle.aka.specs.Auc.{valid_auc, make_autn, make_vector, batch_from, pair_with, pair_from, lent_for, lent_auts, unless_refused, unless_past}
+use Rattle.aka.specs.Auc.{valid_auc, make_autn, make_vector, batch_from, pair_with, pair_from, lent_for, lent_auts, unless_refused}
+use Rattle.aka.specs.Auc.{unless_past}
 use Rattle.aka.specs.Auc.{order_outcome, order}
 use Rattle.aka.specs.Auc as auc
 use Rattle.aka.specs.Runs.{vectors_in}
@@ -68,10 +70,10 @@ happenings =
     ∷ []
 
 ran : Ran (start_with (card_with (zeros card_places)) (auc_with 10 63)) happenings
-unfolding is_edition row_of is_set sets test_outputs base_of outputs outputs_of challenge verdict_on judgement answer_with valid_usim lengths_right
-    mac_right fresh highest lowest_index all_within all_zero make_auts make_autn write_autn read_autn write_auts read_auts xor equal digits spelt
-    pair_from pair_with valid_auc auc.answer_with lent_for lent_auts unless_refused unless_past order_outcome order
-    batch_from make_vector write_vector read_vector joined turn_left vectors_in Ran
+unfolding is_edition row_of is_set sets test_outputs base_of outputs outputs_of challenge verdict_on judgement answer_with valid_usim
+    lengths_right mac_right fresh highest lowest_index all_within all_zero make_auts make_autn write_autn read_autn write_auts read_auts
+    xor equal digits spelt pair_from pair_with valid_auc auc.answer_with lent_for lent_auts unless_refused unless_past order_outcome
+    order batch_from make_vector write_vector read_vector joined turn_left vectors_in Ran
 ran = (
   record { answer_is = refl; shape = record { keys = record { k = refl; opc = refl }; amf = refl } },
   tt,
@@ -89,9 +91,9 @@ ran = (
 -- the first vector comes late, and whatever the code's contract allows, it is accepted
 late : (answer : card.Answer) → Answered (card_with (set (zeros card_places) 0 12)) (vec 0).rand (vec 0).autn answer
     → AcceptedAs (vec 0) (answer_of answer)
-unfolding is_edition row_of is_set sets test_outputs base_of outputs outputs_of valid_usim highest lowest_index all_within all_zero make_autn
-    write_autn read_autn xor equal digits spelt pair_from pair_with valid_auc auc.answer_with lent_for unless_refused unless_past order_outcome order
-    batch_from make_vector write_vector read_vector joined turn_left vectors_in end
+unfolding is_edition row_of is_set sets test_outputs base_of outputs outputs_of valid_usim highest lowest_index all_within all_zero
+    make_autn write_autn read_autn xor equal digits spelt pair_from pair_with valid_auc auc.answer_with lent_for unless_refused
+    unless_past order_outcome order batch_from make_vector write_vector read_vector joined turn_left vectors_in end
 late =
     window (auc_with 10 63) refl (omega arith) (card_with (zeros card_places)) refl happenings ran 0 (vec 0) refl (omega arith)
     (λ among. ⊎_elim (λ e. omega (arith, e)) (λ none. none) among) (omega arith)

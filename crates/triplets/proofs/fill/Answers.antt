@@ -14,7 +14,8 @@ loop-k-init c = record { within = omega arith; filled = record { size = refl; is
 
 -- the triplet of the vector at place k
 module _ (batch made : Octets) (n k : ℕ)
-    (is : made ≡ write_triplet (triplet_of (read_vector (part (vector_size * k) (vector_size * k + vector_size - vector_size * k) batch)))) where
+    (is : made ≡ write_triplet
+        (triplet_of (read_vector (part (vector_size * k) (vector_size * k + vector_size - vector_size * k) batch)))) where
   one : made ≡ write_triplet (triplet_of (vector_at batch k))
   one =
       let size : vector_size * k + vector_size - vector_size * k ≡ vector_size = omega arith in
@@ -38,7 +39,10 @@ loop-k-preserved c =
     let next = put_next made triplet_size c.loop-k.invariant.filled (rw size at c.put.ensures) (c.put.auto.buffer ∙ c.loop-k.auto.triplets)
     (omega arith) in
     let more = ap (λ (x : Octets). triplets_of batch k ++ x) (one batch made c.args.n k c.triplet-made.ensures) ∙ sym (joined_next _ k) in
-    record { within = omega arith; filled = subst₂ (λ (d : Octets) (m : ℕ). Filled c.args.triplets.now d m c.put.new.buffer) more further next }
+    record {
+      within = omega arith;
+      filled = subst₂ (λ (d : Octets) (m : ℕ). Filled c.args.triplets.now d m c.put.new.buffer) more further next;
+    }
 
 pub returns : goal.returns
 returns c =

@@ -59,7 +59,9 @@ loop-i-preserved c =
     let rand = next_is _ from l.i line size c.hex_field.ensures.answer c.hex_field.ensures.octets there in
     record {
       within = omega arith;
-      size = same_len_mid (rand_size * l.i) (rand_size * l.i + rand_size - rand_size * l.i) l.rands _ c.hex_field.auto.out ∙ l.invariant.size;
+      size =
+          same_len_mid (rand_size * l.i) (rand_size * l.i + rand_size - rand_size * l.i) l.rands _ c.hex_field.auto.out
+          ∙ l.invariant.size;
       read = more from l.i line l.invariant.read (c.hex_field.auto.out ∙ size) rand;
       there = one_more from line l.i l.invariant.there (sym (said _ from l.i line size c.hex_field.ensures.answer) ∙ there);
       octets = put_rand from line l.i _ l.invariant.read l.invariant.octets rand;

@@ -6,5 +6,6 @@ use Rattle.bench_writer.proofs.texts.put_records.Goals as goal
 
 pub returns : goal.returns
 returns c =
-    placed_both {a = labelled_two auc_word c.args.seqhe space_word c.args.next ++ labelled_two card_word c.args.seqms space_word c.args.index}
+    placed_both
+    {a = labelled_two auc_word c.args.seqhe space_word c.args.next ++ labelled_two card_word c.args.seqms space_word c.args.index}
     (omega arith) (placed_both (omega arith) c.put_two-a.ensures.text c.put_two-b.ensures.text) c.put.ensures

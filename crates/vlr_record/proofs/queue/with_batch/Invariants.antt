@@ -9,7 +9,8 @@ abbrev pub invariant-loop-k : goal.invariant-loop-k
 invariant-loop-k l = record {
   within : l.k ≤ l.count;
   size : length l.next ≡ place_size * most_held;
-  filled : Filled l.fn.queue (take (place_size * l.held) l.fn.queue ++ places_of (kind_of l.kind) l.batch l.k) (place_size * (l.held + l.k)) l.next;
+  filled : Filled l.fn.queue (take (place_size * l.held) l.fn.queue ++ places_of (kind_of l.kind) l.batch l.k)
+      (place_size * (l.held + l.k)) l.next;
 }
 
 abbrev pub decreases-loop-k : goal.decreases-loop-k
