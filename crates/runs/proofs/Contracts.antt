@@ -1,4 +1,4 @@
--- What the contracts of `usim::challenge`, `auc::order` and `auc::resynchronise` say of an answer is what `Contracts` takes of it: a
+-- What the contracts of `usim::challenge`, `auc::order` and `auc::resynchronise` say of an answer is what `Promises` takes of it: a
 -- contract that said less would be refused here. Assumes nothing.
 use contract.Lifetimes.{Lfts}
 use borrow.Fn.Kinds.{ended_of}
