@@ -1,9 +1,8 @@
 -- The theorem is not empty. Document 01's sample run is over, its challenge comes to the card again, and the centre has lost its record
 -- and begins anew: SEQ_HE is behind and is reset. Assumes nothing.
 use Prim.Native.Nat.{ℕ}
-use mathlib.Core.Bool.{true}
-use mathlib.Core.List.{List, [], ◌∷◌, ◌++◌}
-use mathlib.Core.Path.{◌≡◌, refl}
+use mathlib.Core.List.{◌∷◌, ◌++◌}
+use mathlib.Core.Path.{refl}
 use native.Mathlib.Omega.{arith}
 use lib.ListN.{set}
 use Rattle.octets.specs.Octets.{Octets, zeros, xor, equal, turn_left, digits, spelt}
