@@ -1,6 +1,6 @@
 -- The window's premises are needed. With a number that the centre did not generate, with edition 1's numbering, and with a reset between, a
 -- number among the last generated is refused though it is within D. Assumes nothing.
-use Prim.Native.Nat.{ℕ, ◌≤◌}
+use Prim.Native.Nat.{ℕ}
 use mathlib.Core.List.{List, [], ◌∷◌, ◌++◌}
 use mathlib.Core.Logic.{⊎_elim}
 use mathlib.Core.Path.{◌≡◌, refl}

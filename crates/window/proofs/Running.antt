@@ -16,10 +16,9 @@ use Rattle.aka.specs.Runs as aka
 use Rattle.aka.specs.Window.{AcceptedAs}
 use Rattle.aka.specs.Window as claim
 use Rattle.usim_record.specs.declared.Usim as code
-use Rattle.usim_record.specs.Views.{usim_of, verdict_of, answer_of, sqn_due, sqn_given}
+use Rattle.usim_record.specs.Views.{usim_of, verdict_of, sqn_due, sqn_given}
 use Rattle.auc_record.specs.declared.Auc.{Auc}
 use Rattle.auc_record.specs.Views.{auc_of}
-use Rattle.runs.specs.Promises.{Answered}
 use Rattle.window.specs.Running.{Happening, ordered, resynced, challenged, Stand, after, Happened, Proper, Ran, end, Open}
 use Rattle.window.specs.Running.{NewFor, start_with, Window}
 

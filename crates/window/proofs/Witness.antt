@@ -1,18 +1,16 @@
 -- The theorem is not empty, and its premises are needed. A run of the code in edition 2: an order of two from index 63 on, whose second
 -- vector comes to the card first; the first, late, is then accepted. Assumes nothing.
-use Prim.Native.Nat.{ℕ, ◌≤◌}
-use mathlib.Core.Bool.{true}
+use Prim.Native.Nat.{ℕ}
 use mathlib.Core.List.{List, [], ◌∷◌, ◌++◌}
 use mathlib.Core.Logic.{⊎_elim}
-use mathlib.Core.Path.{◌≡◌, refl}
+use mathlib.Core.Path.{refl}
 use native.Mathlib.Omega.{arith}
-use lib.ListN.{length, set}
-use Rattle.octets.specs.Octets.{Octets, zeros, xor, equal, turn_left, digits, spelt, encode}
+use lib.ListN.{set}
+use Rattle.octets.specs.Octets.{Octets, zeros, xor, equal, turn_left, digits, spelt}
 use Rattle.functions.specs.Sets.{is_set, sets, test_outputs, base_of, outputs, outputs_of}
 use Rattle.functions.specs.SampleRun.{k, z, amf}
 use Rattle.functions.specs.declared.Keys.{Keys}
 use Rattle.aka.specs.Layout.{Vector, all_zero, vector_at, write_autn, read_autn, write_auts, read_auts, write_vector, read_vector, joined}
-use Rattle.aka.specs.Sequence.{sqn_of}
 use Rattle.aka.specs.Editions.{editions, card_places, is_edition, row_of}
 use Rattle.aka.specs.Usim.{challenge, verdict_on, judgement, answer_with, valid_usim, lengths_right, mac_right, fresh, highest}
 use Rattle.aka.specs.Usim.{lowest_index}
@@ -26,9 +24,8 @@ use Rattle.aka.specs.Window.{AcceptedAs}
 use Rattle.usim_record.specs.declared.Usim.{Usim}
 use Rattle.usim_record.specs.declared.Answer as card
 use Rattle.usim_record.specs.declared.Verdict.TheVariants.{Accepted}
-use Rattle.usim_record.specs.Views.{usim_of, answer_of}
+use Rattle.usim_record.specs.Views.{answer_of}
 use Rattle.auc_record.specs.declared.Auc.{Auc}
-use Rattle.auc_record.specs.declared.Answer as centre
 use Rattle.auc_record.specs.declared.Outcome.TheVariants.{Given}
 use Rattle.auc_record.specs.Views.{auc_of}
 use Rattle.runs.specs.Promises.{Answered}
