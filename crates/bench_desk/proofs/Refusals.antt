@@ -12,3 +12,5 @@ module _ (desk : Desk) (rest : DeskAnswer) {n m : ℕ} where
   pub no_refusal : n ≡ m → n ≡ 0 → rest ≡ refused_or desk m rest
   unfolding refused_or
   no_refusal e z = sym (rw (← e, z))
+
+pub ruleset refusals = (refusal, no_refusal)

@@ -31,6 +31,7 @@ fn centre_refusal(outcome: auc::Outcome) -> u8
 }
 
 // Both records go on; where one side refuses, the desk stays, and the centre's refusal is told first.
+#[tactic(auto, using(bench_desk::proofs::Refusals::refusals), unfolding(bench_desk::specs::Desk::with_batch))]
 fn with_batch(desk: Desk, a: auc::Answer, v: vlr::Reply, reply: Reply) -> DeskAnswer
     ensures { (batch : Octets) → desk_answer_of result
         ≡ with_batch (desk_of desk) (auc_answer_of a batch) (vlr_answer_of v) (reply_of reply) }
@@ -53,6 +54,7 @@ fn with_batch(desk: Desk, a: auc::Answer, v: vlr::Reply, reply: Reply) -> DeskAn
 }
 
 // An order: the vectors given go to the node by Store.
+#[tactic(auto, using(crate::proofs::Batches::order_is), unfolding(bench_desk::specs::Desk::order_answer))]
 pub fn order(desk: Desk, count: u8, rands: &[u8], batch: &mut [u8]) -> DeskAnswer
     ensures answer { desk_answer_of result ≡ order_of (desk_of desk) count rands.now batch.old }
     ensures batch { batch.new ≡ (order_answer (desk_of desk) count rands.now batch.old).batch }
@@ -66,6 +68,7 @@ pub fn order(desk: Desk, count: u8, rands: &[u8], batch: &mut [u8]) -> DeskAnswe
 }
 
 // What a resync prints: kept or reset.
+#[tactic(auto, unfolding(bench_desk::specs::Desk::resync_reply))]
 fn resync_reply(outcome: auc::Outcome, n: u64, held: u64) -> Reply
     ensures { reply_of result ≡ resync_reply (auc_outcome_of outcome) n held }
 {
@@ -94,6 +97,7 @@ fn resynchronise(
 }
 
 // A resync with the last AUTS and its RAND: the vectors given go to the node by Renew.
+#[tactic(auto, using(crate::proofs::Batches::resync_is), unfolding(bench_desk::specs::Desk::resync_answer))]
 pub fn resync(desk: Desk, count: u8, rands: &[u8], batch: &mut [u8]) -> DeskAnswer
     ensures answer { desk_answer_of result ≡ resync_of (desk_of desk) count rands.now batch.old }
     ensures batch { batch.new ≡ (resync_answer (desk_of desk) count rands.now batch.old).batch }
