@@ -1,30 +1,15 @@
 -- From the card's verdict to what the desk does. Assumes nothing.
 use Prim.Native.Nat.{ℕ}
-use mathlib.Core.List.{[], ◌∷◌}
 use mathlib.Core.Path.{◌≡◌, ap, ◌∙◌}
-use denote.Enum.Declared.{tag_of}
-use types.Run.{OneOf, miss}
 use Rattle.octets.specs.Octets.{decode}
 use Rattle.functions.specs.Sets.{sets}
 use Rattle.aka.specs.Usim as card
 use Rattle.aka.specs.Vlr as node
 use Rattle.aka.specs.Editions.{editions}
 use Rattle.usim_record.specs.declared.Verdict.{Verdict}
-use Rattle.usim_record.specs.declared.Verdict.TheVariants.{Accepted, Sync, Mac, Refused}
+use Rattle.usim_record.specs.declared.Verdict.TheVariants.{Accepted}
 use Rattle.usim_record.specs.Views.{verdict_of, sqn_given, sqn_due}
-use Rattle.usim_record.specs.contracts.Verdict.{the_type}
 use Rattle.bench_desk.specs.Desk.{Desk, DeskAnswer, ask_answer, card_answer, sqn_asked, on_verdict}
-use Rattle.bench_ask.specs.Failures.{Failed}
-
--- not the first of the four cases
-pub other : (v : Verdict) → OneOf (1 ∷ 2 ∷ 3 ∷ []) (tag_of the_type v) → Failed (verdict_of v)
-other (Accepted sqn) h = absurd (miss (1 ∷ 2 ∷ 3 ∷ []) 0 tt h)
-other Sync h = tt
-other Mac h = tt
-other (Refused number) h = tt
-
-pub no_acceptance : {P : Type 0} {v : Verdict} {sqn : ℕ} → v ≡ Accepted sqn → Failed (verdict_of v) → P
-no_acceptance e h = absurd (rw e at h)
 
 module _ (desk : Desk) where
   -- the verdict as the code found it

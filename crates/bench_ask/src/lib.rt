@@ -31,6 +31,7 @@ fn challenge(desk: Desk, request: vlr::Reply) -> DeskAnswer
 }
 
 // One authentication of the card by the node.
+#[tactic(auto, using(bench_desk::proofs::Refusals::refusals), unfolding(bench_desk::specs::Desk::ask, bench_desk::specs::Desk::ask_answer))]
 pub fn ask(desk: Desk) -> DeskAnswer
     ensures { desk_answer_of result ≡ ask_of (desk_of desk) }
 {

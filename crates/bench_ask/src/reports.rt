@@ -15,6 +15,7 @@ use usim::{Answer, Usim, Verdict};
 use vlr::{Outcome, Vlr};
 
 // What the node says of RES: it passes, or has its cause.
+#[tactic(auto, unfolding(bench_desk::specs::Desk::answer_reply))]
 fn answer_reply(outcome: Outcome, sqn: u64, left: u8) -> Reply
     ensures { reply_of result ≡ answer_reply (outcome_of outcome) sqn left }
 {
@@ -27,6 +28,7 @@ fn answer_reply(outcome: Outcome, sqn: u64, left: u8) -> Reply
 }
 
 // The desk stays as it was where the node refuses.
+#[tactic(auto, using(bench_desk::proofs::Refusals::refusals), unfolding(bench_desk::specs::Desk::after_node))]
 fn after_node(desk: Desk, outcome: Outcome, next: Desk, reply: Reply) -> DeskAnswer
     ensures { desk_answer_of result ≡ after_node (desk_of desk) (outcome_of outcome) (desk_of next) (reply_of reply) }
 {
@@ -38,6 +40,7 @@ fn after_node(desk: Desk, outcome: Outcome, next: Desk, reply: Reply) -> DeskAns
 }
 
 // RES goes to the node, and the card's next record is kept.
+#[tactic(auto, unfolding(bench_desk::specs::Desk::after_answer))]
 fn respond(desk: Desk, vlr: Vlr, res: [u8; aka::RES_SIZE], usim: Usim, sqn: u64) -> DeskAnswer
     ensures { desk_answer_of result ≡ after_answer (desk_of desk) (node.answer (vlr_of vlr) res) (usim_of usim) sqn }
 {
@@ -55,6 +58,7 @@ fn respond(desk: Desk, vlr: Vlr, res: [u8; aka::RES_SIZE], usim: Usim, sqn: u64)
 }
 
 // A wrong MAC: Reject.
+#[tactic(auto, unfolding(bench_desk::specs::Desk::after_reject))]
 fn reject(desk: Desk, vlr: Vlr) -> DeskAnswer
     ensures { desk_answer_of result ≡ after_reject (desk_of desk) (node.reject (vlr_of vlr)) }
 {
@@ -72,6 +76,7 @@ fn reject(desk: Desk, vlr: Vlr) -> DeskAnswer
 }
 
 // A synchronisation failure: Sync hands on RAND with AUTS, and the desk keeps them.
+#[tactic(auto, unfolding(bench_desk::specs::Desk::after_sync))]
 fn sync(desk: Desk, vlr: Vlr, auts: [u8; aka::AUTS_SIZE]) -> DeskAnswer
     ensures { desk_answer_of result ≡ after_sync (desk_of desk) (node.sync (vlr_of vlr) auts) }
 {
@@ -93,6 +98,7 @@ fn sync(desk: Desk, vlr: Vlr, auts: [u8; aka::AUTS_SIZE]) -> DeskAnswer
 }
 
 // A verdict other than acceptance: the node has Sync or Reject, or the card refuses.
+#[tactic(auto, unfolding(bench_desk::specs::Desk::on_verdict))]
 pub fn failure(desk: Desk, vlr: Vlr, answer: Answer) -> DeskAnswer
     requires { Failed (verdict_of answer.verdict) }
     ensures { (sqn : ℕ) → desk_answer_of result
@@ -110,6 +116,7 @@ pub fn failure(desk: Desk, vlr: Vlr, answer: Answer) -> DeskAnswer
 }
 
 // An acceptance: the node has RES.
+#[tactic(auto, unfolding(bench_desk::specs::Desk::on_verdict))]
 pub fn response(desk: Desk, vlr: Vlr, answer: Answer, sqn: u64) -> DeskAnswer
     ensures { desk_answer_of result ≡ on_verdict (desk_of desk) (vlr_of vlr) (card_answer_of answer) sqn accepted_of }
 {
