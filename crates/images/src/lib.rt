@@ -30,7 +30,7 @@ fn put_key(image: &mut [u8], at: usize, key: [u8; aka::KEY_SIZE])
 }
 
 // Puts the head of a record into an image, whose edition admits its keys. What stands behind it stays.
-#[tactic(auto, using(crate::proofs::Heads::few), unfolding(crate::specs::Head::head))]
+#[tactic(auto, using(crate::proofs::Heads::few))]
 pub fn put_head(image: &mut [u8], edition: u8, keys: Keys)
     requires size { head_size ≤ length image.old }
     requires admitted { sets.admits edition (keys_of keys) ≡ true }
