@@ -12,6 +12,7 @@ use crate::results;
 use auc::{Auc, Outcome};
 
 // The next record goes into the image, and the number is handed back.
+#[tactic(auto, unfolding(auc_image::specs::Image::write_answer))]
 fn write_next(auc: Auc, image: &mut [u8], res: u64) -> u64
     requires { (valid_auc editions sets (auc_of auc) ≡ true) × (length image.old ≡ auc_image_size) }
     ensures { (result ≡ res) × (image.new ≡ auc_image editions (auc_of auc)) }

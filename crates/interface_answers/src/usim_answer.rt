@@ -34,6 +34,7 @@ pub fn fill_all(a: usim::Answer, res: &mut [u8], ck: &mut [u8], ik: &mut [u8], a
 }
 
 // The next record goes into the image, and the number is handed back.
+#[tactic(auto, unfolding(usim_image::specs::Image::write_answer))]
 fn write_next(usim: Usim, image: &mut [u8], res: u64) -> u64
     requires { (valid_usim editions sets (usim_of usim) ≡ true) × (length image.old ≡ usim_image_size (width_of editions usim.edition)) }
     ensures { (result ≡ res) × (image.new ≡ usim_image editions (usim_of usim)) }
