@@ -29,6 +29,7 @@ pub extern "C" fn vetrhoss_opc(k: &[u8], op: &[u8], opc: &mut [u8]) -> u64
 }
 
 // The image of a new card: all places 0.
+#[tactic(auto, unfolding(crate::specs::Interface::new_usim_call))]
 #[unsafe(no_mangle)]
 pub extern "C" fn vetrhoss_new_usim(
     edition: u8,
@@ -54,6 +55,7 @@ pub extern "C" fn vetrhoss_new_usim(
 }
 
 // The image of a new centre: SEQ_HE and the next index are 0.
+#[tactic(auto, unfolding(crate::specs::Interface::new_auc_call))]
 #[unsafe(no_mangle)]
 pub extern "C" fn vetrhoss_new_auc(
     edition: u8,
@@ -83,6 +85,7 @@ pub extern "C" fn vetrhoss_new_auc(
 }
 
 // The card's answer to a challenge; the image changes with an acceptance.
+#[tactic(auto, unfolding(crate::specs::Interface::challenge_call))]
 #[unsafe(no_mangle)]
 pub extern "C" fn vetrhoss_challenge(
     image: &mut [u8],
@@ -131,6 +134,7 @@ pub extern "C" fn vetrhoss_challenge(
 }
 
 // The centre's batch; the image changes where it is given.
+#[tactic(auto, unfolding(crate::specs::Interface::on_image))]
 #[unsafe(no_mangle)]
 pub extern "C" fn vetrhoss_order(
     image: &mut [u8],
@@ -151,6 +155,7 @@ pub extern "C" fn vetrhoss_order(
 }
 
 // The centre's batch after a synchronisation failure; the image changes where it is given.
+#[tactic(auto, unfolding(crate::specs::Interface::on_image))]
 #[unsafe(no_mangle)]
 pub extern "C" fn vetrhoss_resynchronise(
     image: &mut [u8],
@@ -173,6 +178,7 @@ pub extern "C" fn vetrhoss_resynchronise(
 }
 
 // Where the vector at place k begins in a batch.
+#[tactic(auto, using(aka::proofs::Offsets::offset_inside), unfolding(crate::specs::Interface::vector_at_call))]
 #[unsafe(no_mangle)]
 pub extern "C" fn vetrhoss_vector_at(batch: &[u8], k: u64) -> u64
     ensures { result ≡ vector_at_call batch.now k }
