@@ -1,6 +1,6 @@
 -- The record that is made is valid, and writing it is all that is left.
 use Rattle.std.proofs.Common.{true, ◌≡◌, sym, ap, ap₂, ◌∙◌}
-use borrow.Author.Tests.{not-false, eq-eqb}
+use borrow.Author.Tests.{eq-eqb}
 use Rattle.octets.proofs.Strings.{listed_all}
 use Rattle.functions.specs.Sets.{is_set, sets}
 use Rattle.functions.proofs.Protocol.{auc_holds}
@@ -18,9 +18,9 @@ unfolding new_auc_call
 returns c =
     let args = c.args in
     let edition = args.edition in
-    let dated : is_edition edition ≡ true = sym c.is_known.ensures ∙ not-false _ c.if-not-is_known.false in
-    let known : is_set args.set ≡ true = sym c.is_known-2.ensures ∙ not-false _ c.if-not-is_known-2.false in
-    let keys : are_keys args.k.now args.opc.now ≡ true = sym c.are_keys.ensures ∙ not-false _ c.if-not-are_keys.false in
+    let dated : is_edition edition ≡ true = sym c.is_known.ensures ∙ c.if-not-is_known.false in
+    let known : is_set args.set ≡ true = sym c.is_known-2.ensures ∙ c.if-not-is_known-2.false in
+    let keys : are_keys args.k.now args.opc.now ≡ true = sym c.are_keys.ensures ∙ c.if-not-are_keys.false in
     let two = c.if-amf-ne-AMF_SIZE.false in
     let centre : Auc = new_auc edition (record { set = args.set; k = args.k.now; opc = args.opc.now }) args.amf.now in
     rw (dated, known, keys, eq-eqb _ amf_size two)
