@@ -1,19 +1,12 @@
 -- Tests of sizes. Assumes nothing.
-use mathlib.Core.Bool.{Bool, true, false, ◌&&◌, and-eq-true_iff}
-use mathlib.Core.Path.{◌≡◌, refl}
+use mathlib.Core.Bool.{true, and-eq-true_iff}
+use mathlib.Core.Path.{◌≡◌}
 use borrow.Author.Tests.{eqb-true}
 use lib.Dec.{eqb}
 use lib.ListN.{length}
 use Rattle.octets.specs.Octets.{Octets}
 use Rattle.aka.specs.Layout.{key_size}
 use Rattle.interface_answers.specs.Answers.{are_keys}
-
--- the code makes the second test where the first passes
-pub passed : {x : Bool} (y : Bool) → x ≡ true → y ≡ (x && y)
-passed y e = rw e refl
-
-pub failed : {x : Bool} (y : Bool) → x ≡ false → x ≡ (x && y)
-failed y e = rw e refl
 
 pub key_sizes : (k op : Octets) → are_keys k op ≡ true → (length k ≡ key_size) × (length op ≡ key_size)
 unfolding are_keys
