@@ -20,7 +20,7 @@ use functions::Keys;
 const BATCH_SIZE: usize = aka::VECTOR_SIZE * (aka::MOST_VECTORS as usize);
 
 // `keyed`: a key was taken. `failed`: since then a synchronisation failure brought an AUTS; the desk has it.
-#[derive(Drop)]
+#[derive(Clone, Copy, Drop)]
 pub struct Bench {
     pub keyed: bool,
     pub failed: bool,
@@ -28,14 +28,14 @@ pub struct Bench {
 }
 
 // What a line does: the bench after it, and what it answers.
-#[derive(Drop)]
+#[derive(Clone, Copy, Drop)]
 pub struct BenchAnswer {
     pub bench: Bench,
     pub reply: Reply,
 }
 
 // The bench after a line, and the length of its answer.
-#[derive(Drop)]
+#[derive(Clone, Copy, Drop)]
 pub struct Stepped {
     pub bench: Bench,
     pub size: usize,
@@ -57,6 +57,7 @@ pub fn new() -> Bench
     }
 }
 
+#[tactic(auto, unfolding(crate::specs::Bench::bad_line))]
 fn bad_line(bench: Bench) -> BenchAnswer
     ensures { bench_answer_of result ≡ spec.bad_line (bench_of bench) }
 {
@@ -67,6 +68,7 @@ fn bad_line(bench: Bench) -> BenchAnswer
 }
 
 // A key that is taken makes everything new.
+#[tactic(auto, unfolding(crate::specs::Bench::key))]
 fn key(bench: Bench, keys: Keys, amf: [u8; aka::AMF_SIZE]) -> BenchAnswer
     ensures { bench_answer_of result ≡ spec.key (bench_of bench) (keys_of keys) amf }
 {
@@ -88,6 +90,7 @@ fn key(bench: Bench, keys: Keys, amf: [u8; aka::AMF_SIZE]) -> BenchAnswer
 }
 
 // Whether there is an AUTS: there was one before, or the step that answered so brought one.
+#[tactic(auto, unfolding(crate::specs::Bench::is_sync))]
 fn failed_after(failed: bool, reply: Reply) -> bool
     ensures { result ≡ (failed || spec.is_sync (reply_of reply)) }
 {
@@ -98,6 +101,7 @@ fn failed_after(failed: bool, reply: Reply) -> bool
 }
 
 // The bench after a step of the desk.
+#[tactic(auto, unfolding(crate::specs::Bench::on_desk))]
 fn on_desk(bench: Bench, a: DeskAnswer) -> BenchAnswer
     ensures { bench_answer_of result ≡ spec.on_desk (bench_of bench) (desk_answer_of a) }
 {
@@ -148,6 +152,7 @@ fn resync(desk: Desk, count: u8, rands: [u8; bench_reader::RANDS_SIZE]) -> DeskA
 }
 
 // A resync with no AUTS since the last key taken is a bad line.
+#[tactic(auto, unfolding(crate::specs::Bench::resync))]
 fn answer_resync(bench: Bench, count: u8, rands: [u8; bench_reader::RANDS_SIZE]) -> BenchAnswer
     ensures { bench_answer_of result ≡ spec.resync (bench_of bench) count rands }
 {
@@ -169,6 +174,7 @@ fn answer_key(bench: Bench, c: Command) -> BenchAnswer
 }
 
 // Once a key was taken, every word counts.
+#[tactic(auto, unfolding(crate::specs::Bench::answer_to, crate::specs::Bench::once_keyed, crate::specs::Bench::order))]
 fn answer_keyed(bench: Bench, c: Command) -> BenchAnswer
     requires { bench.keyed ≡ true }
     ensures { bench_answer_of result ≡ spec.answer_to (bench_of bench) (command_of c) (word_of c.word) }
@@ -188,6 +194,7 @@ fn answer_keyed(bench: Bench, c: Command) -> BenchAnswer
 }
 
 // Before that, key alone does.
+#[tactic(auto, unfolding(crate::specs::Bench::answer_to, crate::specs::Bench::once_keyed))]
 fn answer_unkeyed(bench: Bench, c: Command) -> BenchAnswer
     requires { bench.keyed ≡ false }
     ensures { bench_answer_of result ≡ spec.answer_to (bench_of bench) (command_of c) (word_of c.word) }
@@ -211,6 +218,7 @@ fn answer_to(bench: Bench, c: Command) -> BenchAnswer
 
 // One line of any bytes and any length: the bench after it, its answer at the front of `out`, and the length of the answer. Where `out` has
 // less than `bench_writer::ROOM` bytes, nothing is done.
+#[tactic(auto, using(crate::proofs::Answers::step_is, crate::proofs::Answers::stepped_is), unfolding(crate::specs::Bench::stepped))]
 pub fn step(bench: Bench, line: &[u8], out: &mut [u8]) -> Stepped
     ensures { stepped_of result out.new ≡ spec.stepped (bench_of bench) line.now out.old }
 {
