@@ -4,7 +4,7 @@ use mathlib.Core.Path.{◌≡◌, ap}
 use Prim.Native.Nat.{ℕ, ◌<◌}
 use native.Mathlib.Omega.{arith}
 use borrow.Author.Tests.{lt-ltb}
-use lib.ListN.{length, take}
+use lib.ListN.{length}
 use Rattle.console.specs.Turns.{Answer}
 use Rattle.console.proofs.LineLaws.{cut_long}
 use Rattle.console.proofs.Runs.{answers_all}

@@ -11,9 +11,10 @@ ghost use Rattle.bench.specs.Program.{line_answer};
 
 use bench_core::Bench;
 use console::Progress;
+use std::io::{Read, Write};
 
 // The bench, and how far the program is.
-#[derive(Drop)]
+#[derive(Clone, Copy, Drop)]
 pub struct Turn {
     pub bench: Bench,
     pub progress: Progress,
@@ -40,7 +41,14 @@ fn answer(bench: Bench, line: &[u8], out: &mut [u8], p: Progress) -> Turn
 }
 
 // Answers every line of the input. A proved loop has to end, so this one counts its turns down, from a number that no run uses up.
-fn answer_all(piece: &mut [u8], line: &mut [u8], out: &mut [u8]) -> Turn
+fn answer_all<R: Read, W: Write, E: Write>(
+    input: &mut R,
+    output: &mut W,
+    errors: &mut E,
+    piece: &mut [u8],
+    line: &mut [u8],
+    out: &mut [u8],
+) -> Turn
     requires line { longest < length line.old }
     requires out { 2 * room ≤ length out.old }
     ensures { Ran (Gives line_answer) new_bench (length line.old) (length out.old)
@@ -50,7 +58,7 @@ fn answer_all(piece: &mut [u8], line: &mut [u8], out: &mut [u8]) -> Turn
     let mut p = console::begin();
     let mut turns = u64::MAX;
     while turns > 0 {
-        p = console::advance(piece, line, out, p);
+        p = console::advance(input, output, errors, piece, line, out, p);
         if console::is_ended(p) {
             return Turn { bench, progress: p };
         }
@@ -63,9 +71,16 @@ fn answer_all(piece: &mut [u8], line: &mut [u8], out: &mut [u8]) -> Turn
 }
 
 // A line is held up to one byte more than the longest, so that a longer one is seen to be longer.
-fn main() {
+fn main(rt: HostRuntime) {
     let mut piece = io::large_buffer();
     let mut line = [0u8; bench_reader::LONGEST + 1];
     let mut out = io::large_buffer();
-    answer_all(&mut piece, &mut line, &mut out);
+    answer_all(
+        &mut rt.stdin(),
+        &mut rt.stdout(),
+        &mut rt.stderr(),
+        &mut piece,
+        &mut line,
+        &mut out,
+    );
 }
