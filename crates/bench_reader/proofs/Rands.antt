@@ -41,8 +41,8 @@ module _ (from : ℕ) (line : List ℕ) where
   put_rand i before {out} {x} size is is_x =
       let next : rand_size * i + rand_size ≡ rand_size * (i + 1) = omega arith in
       let rest :
-          drop (rand_size * i + rand_size) (rand_octets i from line ++ drop (rand_size * i) before)
-          ≡ drop (rand_size * (i + 1)) before =
+      drop (rand_size * i + rand_size) (rand_octets i from line ++ drop (rand_size * i) before)
+      ≡ drop (rand_size * (i + 1)) before =
       ap (λ (n : ℕ). drop (n + rand_size) (rand_octets i from line ++ drop (rand_size * i) before)) (sym size)
       ∙ drop-append-add (rand_octets i from line) (drop (rand_size * i) before) rand_size
       ∙ drop-drop rand_size (rand_size * i) before

@@ -42,8 +42,8 @@ returns-then-count-gt-MOST_VECTORS c = (
 pub returns-then-rands-n : goal.returns-then-rands-n
 returns-then-rands-n c =
     let few =
-        rw c.count_of-n.ensures at
-        (few_rands c.count_of-n.result (length c.args.rands.now) c.args.size c.args.lent c.if-rands-n.true) in (
+    rw c.count_of-n.ensures at
+    (few_rands c.count_of-n.result (length c.args.rands.now) c.args.size c.args.lent c.if-rands-n.true) in (
       λ rest. refusal_3 editions sets (auc_of c.args.auc) c.args.count _ _ c.args.rands.now rest (sym c.if-not-is_valid.ensures)
           c.if-count-gt-MOST_VECTORS.false few,
       refl,

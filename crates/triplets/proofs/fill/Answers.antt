@@ -15,7 +15,7 @@ loop-k-init c = record { within = omega arith; filled = record { size = refl; is
 -- the triplet of the vector at place k
 module _ (batch made : Octets) (n k : ℕ)
     (is : made ≡ write_triplet
-        (triplet_of (read_vector (part (vector_size * k) (vector_size * k + vector_size - vector_size * k) batch)))) where
+    (triplet_of (read_vector (part (vector_size * k) (vector_size * k + vector_size - vector_size * k) batch)))) where
   one : made ≡ write_triplet (triplet_of (vector_at batch k))
   one =
       let size : vector_size * k + vector_size - vector_size * k ≡ vector_size = omega arith in

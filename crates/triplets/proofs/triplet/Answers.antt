@@ -17,8 +17,8 @@ returns c =
     let sres_long : length sres ≡ sres_size = c.sres-sres.type_inv.1.0.1 in
     let kc_long : length kc ≡ kc_size = c.kc-kc.type_inv.1.0.1 in
     let one =
-        put_next {d = zeros triplet_size} {done = []} {at = 0} rand rand_size (record { size = refl; is = refl })
-        (rw rand_long at c.put.ensures)
+    put_next {d = zeros triplet_size} {done = []} {at = 0} rand rand_size (record { size = refl; is = refl })
+    (rw rand_long at c.put.ensures)
     c.put.auto.buffer (omega arith) in
     let two = put_next sres sres_size one (rw sres_long at c.put-2.ensures) (c.put-2.auto.buffer ∙ c.put.auto.buffer) (omega arith) in
     let all = put_next kc kc_size two (rw kc_long at c.put-3.ensures)
