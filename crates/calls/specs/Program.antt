@@ -1,6 +1,6 @@
 -- What is promised of the program: every line has one answer, in order, and each is given with the node that the one before left. What
 -- the answer to a call is, is compared and not proved. Assumes nothing: these are definitions.
-use Rattle.std.specs.Prelude.{ℕ, ◌≤◌, List}
+use Rattle.std.specs.Prelude.{ℕ, ◌≤◌}
 use Rattle.aka.specs.Vlr.{Vlr, new_vlr}
 use Rattle.console.specs.Turns.{Answering, Claim}
 
