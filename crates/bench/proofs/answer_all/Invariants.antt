@@ -9,7 +9,8 @@ use Rattle.bench.proofs.answer_all.Given as goal
 
 abbrev pub invariant-loop-turns : goal.invariant-loop-turns
 invariant-loop-turns g l =
-    Going (Gives line_answer) new_bench (length l.fn.line) (length l.fn.out) l.turns (bench_of l.bench) (standing_of l.piece l.line l.out l.p)
+    Going (Gives line_answer) new_bench (length l.fn.line) (length l.fn.out) l.turns (bench_of l.bench)
+    (standing_of l.piece l.line l.out l.p)
 
 abbrev pub decreases-loop-turns : goal.decreases-loop-turns
 decreases-loop-turns g l = l.turns
