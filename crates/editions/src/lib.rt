@@ -31,6 +31,7 @@ pub struct Numbering {
 }
 
 // Whether there is such an edition.
+#[tactic(auto, unfolding(aka::specs::Editions::is_edition))]
 pub fn is_known(edition: u8) -> bool
     ensures { result ≡ is_edition edition }
 {
