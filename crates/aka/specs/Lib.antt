@@ -60,3 +60,4 @@ pub mod OrderOfUse
 pub mod Handset
 pub mod HandsetLaws
 pub mod RepeatedChallenge
+pub mod Refusals

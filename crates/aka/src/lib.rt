@@ -2,6 +2,9 @@
 // that the code has from the definitions: this is their one home.
 #![tactic(auto)]
 
+ghost use Rattle.std.specs.Prelude.{◌≡◌};
+ghost use Rattle.aka.specs.Refusals.{number_of};
+
 // ---- sequence numbers (specs/Sequence)
 
 // The largest jump.
@@ -103,3 +106,35 @@ pub const MOST_HELD: usize = 16;
 pub const PLACE_SIZE: usize = KIND_SIZE + VECTOR_SIZE;
 
 pub const QUEUE_SIZE: usize = PLACE_SIZE * MOST_HELD;
+
+// ---- the refusals, by their numbers (document 01: 'Refusal numbers'; specs/Refusals)
+
+#[derive(Clone, Copy, PartialEq, Eq)]
+pub enum Refusal {
+    // The record or image is not valid.
+    Invalid = 1,
+    // The count is past its range.
+    Count = 2,
+    // A lent part or image has another length than named.
+    Length = 3,
+    // Two of the RANDs that are lent are equal.
+    SameRand = 4,
+    // SEQ_HE is out of range, and MAC-S is wrong.
+    MacS = 5,
+    // The last SEQ would pass the limit.
+    Limit = 6,
+    // The operation is not named for the node's state.
+    State = 7,
+    // The node holds nothing.
+    Empty = 8,
+    // The node would hold more than it can.
+    Full = 9,
+}
+
+impl Refusal {
+    pub fn number(self) -> u8
+        ensures { result ≡ number_of self }
+    {
+        self as u8
+    }
+}
