@@ -2,6 +2,7 @@
 use Prim.Native.Nat.{ℕ, ◌+◌, ◌-◌, ◌≤◌, ◌<◌}
 use mathlib.Core.Bool.{Bool, true, false, cond, and-false}
 use mathlib.Core.List.{List, [], ◌∷◌}
+use Rattle.std.specs.Prelude.{Option, Some, None}
 use mathlib.Core.Path.{◌≡◌, refl, sym, ap, ◌∙◌}
 use native.Mathlib.Omega.{arith}
 use borrow.Author.Tests.{le-leb, lt-leb}
@@ -26,16 +27,22 @@ pub no_digits : (most : ℕ) → is_number most [] ≡ false
 unfolding is_number is_decimal
 no_digits most = and-false (leb 0 most)
 
--- what a number that was read says of its text
-module _ (most : ℕ) {text t : List ℕ} {ok : Bool} (said : ok ≡ is_number most text) (is : text ≡ t) where
-  pub number_false : ok ≡ false → is_number most t ≡ false
-  number_false e = rw (← is) (sym said ∙ e)
+-- what was read of a text says of it
+module _ (most : ℕ) {text t : List ℕ} (is : text ≡ t) where
+  pub number_none : {n : Option ℕ} → n ≡ cond (is_number most text) (Some (decimal text)) None → n ≡ None → is_number most t ≡ false
+  number_none said e = rw (← is) (none (is_number most text) (sym said ∙ e))
+    where
+      none : (b : Bool) → cond b (Some (decimal text)) None ≡ None → b ≡ false
+      none true h = absurd (cc)
+      none false h = refl
 
-  pub number_true : ok ≡ true → is_number most t ≡ true
-  number_true e = rw (← is) (sym said ∙ e)
-
-  pub number_value : {v : ℕ} → v ≡ cond (is_number most text) (decimal text) 0 → ok ≡ true → v ≡ decimal t
-  number_value v e = let good : is_number most text ≡ true = sym said ∙ e in v ∙ rw (good, is)
+  pub number_some : {n : Option ℕ} {v : ℕ} → n ≡ cond (is_number most text) (Some (decimal text)) None → n ≡ Some v
+      → (is_number most t ≡ true) × (v ≡ decimal t)
+  number_some {n} {v} said e = rw (← is) (some (is_number most text) (sym said ∙ e))
+    where
+      some : (b : Bool) → cond b (Some (decimal text)) None ≡ Some v → (b ≡ true) × (v ≡ decimal text)
+      some true h = (refl, cc)
+      some false h = absurd (cc)
 
 front : (t : List ℕ) → take (length (field t)) t ≡ field t
 unfolding field
@@ -86,7 +93,6 @@ pub ruleset put_forms = (
   put_seqhe,
   put_next,
   put_read,
-  number_false,
-  number_true,
-  number_value,
+  number_none,
+  number_some,
 )

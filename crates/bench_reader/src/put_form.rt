@@ -5,7 +5,6 @@ ghost use Rattle.bench_reader.specs.Commands.{is_number, put_command, read_put, 
 ghost use Rattle.bench_reader.specs.Views.{command_of};
 
 use crate::{Command, Word};
-use fields::Number;
 
 // The place of SEQHE, and the most digits of the two numbers.
 const SEQHE: usize = 4;
@@ -15,15 +14,12 @@ const SEQHE_DIGITS: usize = 13;
 const NEXT_DIGITS: usize = 2;
 
 // Reads a decimal number of at most so many digits.
-#[tactic(auto, using(crate::proofs::PutForms::too_long, crate::proofs::PutForms::short_enough))]
-fn number(text: &[u8], most: usize) -> Number
-    ensures { (result.ok ≡ is_number most text.now) × (result.value ≡ cond (is_number most text.now) (decimal text.now) 0) }
+#[tactic(auto, using(crate::proofs::PutForms::too_long, crate::proofs::PutForms::short_enough), unfolding(fields::specs::Fields::number_in))]
+fn number(text: &[u8], most: usize) -> Option<u64>
+    ensures { result ≡ cond (is_number most text.now) (Some (decimal text.now)) None }
 {
     if most < text.len() {
-        return Number {
-            ok: false,
-            value: 0,
-        };
+        return None;
     }
     fields::read_number(text)
 }
@@ -58,11 +54,8 @@ pub fn read_put(line: &[u8]) -> Command
     let seqhe = number(&line[SEQHE..end], SEQHE_DIGITS);
     let start = end + 1;
     let next = number(&line[start..], NEXT_DIGITS);
-    if !seqhe.ok {
-        return crate::word_alone(Word::Bad);
+    match (seqhe, next) {
+        (Some(seqhe), Some(next)) => put_numbers(seqhe, next),
+        _ => crate::word_alone(Word::Bad),
     }
-    if !next.ok {
-        return crate::word_alone(Word::Bad);
-    }
-    put_numbers(seqhe.value, next.value)
 }

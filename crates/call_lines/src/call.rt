@@ -2,7 +2,6 @@
 ghost use Rattle.std.specs.Prelude.{◌<◌, ◌≤◌};
 ghost use Rattle.call_lines.specs.Limits.{longest, most_fields, most_lent};
 
-use fields::Number;
 use functions::Keys;
 
 // The bytes of the longest line that is answered.
@@ -31,6 +30,13 @@ pub struct Call {
     pub starts: [usize; MOST_FIELDS],
     pub values: [u64; MOST_FIELDS],
     pub at: usize,
+}
+
+// A number or a count of octets, or `ok` false and zero.
+#[derive(Drop)]
+struct Amount {
+    ok: bool,
+    value: u64,
 }
 
 // A field up to `end`; `ok` is false where it is not of its kind.
@@ -110,7 +116,7 @@ fn find_word(words: &[u8], word: &[u8]) -> Entry {
 // has one octet, `l` the length of a lent buffer, `n` any number; `A` AMF, `K` a key, `V` the node's outstanding place, `P` all its
 // places, `O` any octets.
 // Whether the number, or how many octets there are, is right for the letter.
-fn fits(kind: u8, n: Number) -> bool {
+fn fits(kind: u8, n: &Amount) -> bool {
     if !n.ok {
         return false;
     }
@@ -128,18 +134,18 @@ fn fits(kind: u8, n: Number) -> bool {
     }
 }
 
-fn no_number() -> Number {
-    Number {
+fn no_number() -> Amount {
+    Amount {
         ok: false,
         value: 0,
     }
 }
 
 // Reads octets in hex to the front of `out`; `-` stands for none, an empty text for nothing. The value is how many there are.
-fn read_octets(text: &[u8], out: &mut [u8]) -> Number {
+fn read_octets(text: &[u8], out: &mut [u8]) -> Amount {
     let size = text.len() / 2;
     if size == 0 {
-        return Number {
+        return Amount {
             ok: fields::begins(text, b"-"),
             value: 0,
         };
@@ -147,7 +153,7 @@ fn read_octets(text: &[u8], out: &mut [u8]) -> Number {
     if out.len() < size {
         return no_number();
     }
-    Number {
+    Amount {
         ok: hex_digits::read(text, &mut out[0..size]),
         value: size as u64,
     }
@@ -161,14 +167,17 @@ fn most_digits(kind: u8) -> usize {
     fields::MOST_DIGITS
 }
 
-fn read_value(kind: u8, text: &[u8], out: &mut [u8]) -> Number {
+fn read_value(kind: u8, text: &[u8], out: &mut [u8]) -> Amount {
     if kind < b'a' {
         return read_octets(text, out);
     }
     if most_digits(kind) < text.len() {
         return no_number();
     }
-    fields::read_number(text)
+    match fields::read_number(text) {
+        Some(value) => Amount { ok: true, value },
+        None => no_number(),
+    }
 }
 
 fn no_field() -> Field {
@@ -191,7 +200,7 @@ fn read_field(kind: u8, line: &[u8], at: usize, store: &mut [u8]) -> Field {
     let end = fields::field_end(line, start);
     let n = read_value(kind, &line[start..end], &mut store[at..end]);
     Field {
-        ok: fits(kind, n),
+        ok: fits(kind, &n),
         value: n.value,
         end,
     }

@@ -1,5 +1,5 @@
 -- The fields of a line: words, decimal numbers, octets in hex. Assumes nothing: these are definitions.
-use Rattle.std.specs.Prelude.{ℕ, ◌+◌, ◌-◌, ◌*◌, ◌^◌, Bool, true, false, ◌&&◌, cond, List, [], ◌∷◌, map, eqb, leb, ltb, length, get_or, drop}
+use Rattle.std.specs.Prelude.{ℕ, ◌+◌, ◌-◌, ◌*◌, ◌^◌, Bool, true, false, ◌&&◌, cond, Option, Some, None, List, [], ◌∷◌, map, eqb, leb, ltb, length, get_or, drop}
 use Rattle.octets.specs.Octets.{Octets, number, part}
 use Rattle.hex_digits.specs.Hex.{is_hex, unhex}
 
@@ -63,3 +63,7 @@ most_digits = 20
 -- at least one digit, not too many, and a number of 64 bits
 unfoldable pub is_decimal : List ℕ → Bool
 is_decimal t = ltb 0 (length t) && leb (length t) most_digits && all_decimal t && ltb (decimal t) (2 ^ 64)
+
+-- the number that a text is, and none where it is no such number
+unfoldable pub number_in : List ℕ → Option ℕ
+number_in t = cond (is_decimal t) (Some (decimal t)) None

@@ -1,18 +1,11 @@
 // The fields of a line: words, decimal numbers, octets in hex.
 #![tactic(auto)]
 
-ghost use Rattle.std.specs.Prelude.{◌≡◌, ◌≤◌, false, cond, length};
-ghost use Rattle.fields.specs.Fields.{begins as begins_with, decimal, end_of, is_decimal, is_hex_field, read_field_into};
+ghost use Rattle.std.specs.Prelude.{◌≡◌, ◌≤◌, length};
+ghost use Rattle.fields.specs.Fields.{begins as begins_with, end_of, is_hex_field, number_in, read_field_into};
 
 // The most decimal digits of a number of 64 bits.
 pub const MOST_DIGITS: usize = 20;
-
-// A number, or `ok` false and zero.
-#[derive(Clone, Copy, Drop)]
-pub struct Number {
-    pub ok: bool,
-    pub value: u64,
-}
 
 // Where the field that starts at `from` ends: at the first space, or at the end of the line.
 pub fn field_end(line: &[u8], from: usize) -> usize
@@ -67,41 +60,20 @@ pub fn hex_field(line: &[u8], at: usize, out: &mut [u8]) -> bool
     hex_digits::read(&line[start..end], out)
 }
 
-fn no_number() -> Number
-    ensures { (result.ok ≡ false) × (result.value ≡ 0) }
-{
-    Number {
-        ok: false,
-        value: 0,
-    }
-}
-
 // Reads a decimal number of at most `MOST_DIGITS` digits and 64 bits.
-pub fn read_number(text: &[u8]) -> Number
-    ensures { (result.ok ≡ is_decimal text.now) × (result.value ≡ cond (is_decimal text.now) (decimal text.now) 0) }
+#[tactic(auto, using(crate::proofs::NumberLaws::numbers))]
+pub fn read_number(text: &[u8]) -> Option<u64>
+    ensures { result ≡ number_in text.now }
 {
-    if text.len() == 0 {
-        return no_number();
-    }
-    if MOST_DIGITS < text.len() {
-        return no_number();
+    if text.is_empty() || MOST_DIGITS < text.len() {
+        return None;
     }
     let mut value: u64 = 0;
-    let mut i = 0;
-    while i < text.len() {
-        let c = text[i];
-        if c < b'0' {
-            return no_number();
+    for c in text {
+        if !c.is_ascii_digit() {
+            return None;
         }
-        if b'9' < c {
-            return no_number();
-        }
-        let d = (c - b'0') as u64;
-        if (u64::MAX - d) / 10 < value {
-            return no_number();
-        }
-        value = value * 10 + d;
-        i += 1;
+        value = value.checked_mul(10)?.checked_add((c - b'0') as u64)?;
     }
-    Number { ok: true, value }
+    Some(value)
 }
