@@ -16,7 +16,7 @@ ghost use Rattle.auc_record.specs.Views.{auc_of, outcome_of, answer_of};
 use auc_record::Checked;
 pub use auc_record::{Answer, Auc, Outcome, is_valid, new};
 use batches::Series;
-pub use batches::{Offset, offset_of, vector_at};
+pub use batches::{offset_of, vector_at};
 
 // A batch of n vectors whose SEQ follow `from`, unless the last passes the limit: refusal 6. `outcome` is that of the batch.
 fn generate(

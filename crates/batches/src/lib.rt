@@ -26,13 +26,6 @@ pub struct Series {
     pub next: u8,
 }
 
-// Where a vector begins in a batch; `Nowhere` stands for refusal 3.
-#[derive(Clone, Copy, Drop)]
-pub enum Offset {
-    At(usize),
-    Nowhere,
-}
-
 // SQN of the vector at place k.
 fn sqn_at(s: Series, k: u8) -> [u8; aka::SQN_SIZE]
     requires { s.from + 1 + k ≤ limit (width_of editions s.edition) }
@@ -62,22 +55,11 @@ fn put_at(
         ++ write_vector (vector_from editions sets (counted_by s) s.from rands.now k)
         ++ drop (vector_size * k + vector_size) batch.old }
 {
-    let keys = s.keys;
-    let amf = s.amf;
     let p = aka::RAND_SIZE * (k as usize);
     let rand = octets::sixteen(&rands[p..p + aka::RAND_SIZE]);
-    let sqn = sqn_at(s, k);
-    let c = functions::prepare(table, schedule, keys, rand);
-    vectors::put_vector(
-        table,
-        schedule,
-        c,
-        sqn,
-        amf,
-        rand,
-        batch,
-        aka::VECTOR_SIZE * (k as usize),
-    );
+    let c = functions::prepare(table, schedule, s.keys, rand);
+    let v = vectors::make(table, schedule, c, sqn_at(s, k), s.amf, rand);
+    vectors::put(v, batch, aka::VECTOR_SIZE * (k as usize));
 }
 
 // Fills a buffer with a batch of n vectors.
@@ -94,10 +76,8 @@ pub fn fill(
     requires lent { (length rands.now ≡ rand_size * n) × (length batch.old ≡ vector_size * n) }
     ensures { batch.new ≡ batch_from editions sets (counted_by s) s.from rands.now n }
 {
-    let mut k: u8 = 0;
-    while k < n {
+    for k in 0..n {
         put_at(table, schedule, s, rands, k, batch);
-        k += 1;
     }
 }
 
@@ -105,27 +85,21 @@ pub fn fill(
 pub fn is_batch(size: usize) -> bool
     ensures { result ≡ is_batch size }
 {
-    if size < aka::VECTOR_SIZE {
-        return false;
-    }
-    if aka::VECTOR_SIZE * (aka::MOST_VECTORS as usize) < size {
-        return false;
-    }
-    size % aka::VECTOR_SIZE == 0
+    aka::VECTOR_SIZE <= size
+        && size <= aka::VECTOR_SIZE * (aka::MOST_VECTORS as usize)
+        && size % aka::VECTOR_SIZE == 0
 }
 
-// Where the vector at place k begins in a batch of `size` octets.
+// Where the vector at place k begins in a batch of `size` octets; `None` stands for refusal 3.
 #[tactic(auto, unfolding(aka::specs::Layout::is_place, aka::specs::Layout::vector_offset))]
-pub fn offset_of(size: usize, k: u64) -> Offset
+pub fn offset_of(size: usize, k: u64) -> Option<usize>
     ensures { offset_in result ≡ vector_offset size k }
 {
-    if !is_batch(size) {
-        return Offset::Nowhere;
+    if is_batch(size) && k < (size / aka::VECTOR_SIZE) as u64 {
+        Some(aka::VECTOR_SIZE * (k as usize))
+    } else {
+        None
     }
-    if (size / aka::VECTOR_SIZE) as u64 <= k {
-        return Offset::Nowhere;
-    }
-    Offset::At(aka::VECTOR_SIZE * (k as usize))
 }
 
 // The vector at place k, as the part of the caller's own batch that begins at its offset; an empty part stands for refusal 3.
@@ -133,8 +107,7 @@ pub fn vector_at<'a>(batch: &'a [u8], k: u64) -> &'a [u8]
     ensures octets { result.now ≡ vector_part batch.now k }
     ensures place { result.ref_ptr ≡ start_in (vector_offset (length batch.now) k) batch.entry.ref_ptr }
 {
-    let offset = offset_of(batch.len(), k);
-    let Offset::At(at) = offset else {
+    let Some(at) = offset_of(batch.len(), k) else {
         return &batch[0..0];
     };
     &batch[at..at + aka::VECTOR_SIZE]

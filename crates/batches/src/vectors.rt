@@ -7,8 +7,18 @@ ghost use Rattle.functions.specs.Sets.{sets};
 ghost use Rattle.aka.specs.Functions.{Keys as KeysOf};
 ghost use Rattle.aka.specs.Layout.{vector_size, write_vector};
 ghost use Rattle.aka.specs.Auc.{make_autn, make_vector};
+ghost use Rattle.batches.specs.Views.{vector_of};
 
-use functions::Challenge;
+use functions::{Challenge, ResAk};
+
+#[derive(Clone, Copy, Drop)]
+pub struct Vector {
+    pub rand: [u8; aka::RAND_SIZE],
+    pub xres: [u8; aka::RES_SIZE],
+    pub ck: [u8; aka::CK_SIZE],
+    pub ik: [u8; aka::IK_SIZE],
+    pub autn: [u8; aka::AUTN_SIZE],
+}
 
 // AUTN, with the AK that conceals its SQN.
 fn autn(
@@ -27,50 +37,39 @@ fn autn(
     tokens::autn(sqn, ak, amf, mac)
 }
 
-// Puts the parts of a vector into a batch, from `at` on. What stands before and behind stays.
-fn put_parts(
-    batch: &mut [u8],
-    at: usize,
-    rand: [u8; aka::RAND_SIZE],
-    xres: [u8; aka::RES_SIZE],
-    ck: [u8; aka::CK_SIZE],
-    ik: [u8; aka::IK_SIZE],
-    autn: [u8; aka::AUTN_SIZE],
-)
-    requires { at + vector_size ≤ length batch.old }
-    ensures { batch.new
-        ≡ take at batch.old ++ write_vector (record { rand = rand; xres = xres; ck = ck; ik = ik; autn = autn })
-        ++ drop (at + vector_size) batch.old }
-{
-    octets::put(batch, at, &rand);
-    octets::put(batch, at + aka::XRES_AT, &xres);
-    octets::put(batch, at + aka::CK_AT, &ck);
-    octets::put(batch, at + aka::IK_AT, &ik);
-    octets::put(batch, at + aka::AUTN_AT, &autn);
-}
-
-// Puts the vector of a RAND taken up into a batch, from `at` on. What stands before and behind stays.
-pub fn put_vector(
+// The vector of a RAND taken up.
+pub fn make(
     table: &[u32; 256],
     schedule: &[u32; 44],
     c: Challenge,
     sqn: [u8; aka::SQN_SIZE],
     amf: [u8; aka::AMF_SIZE],
     rand: [u8; aka::RAND_SIZE],
-    batch: &mut [u8],
-    at: usize,
-)
-    requires { IsRoundTable table.now × (at + vector_size ≤ length batch.old) }
-    ensures { (keys : KeysOf) → Prepared keys rand schedule.now c
-        → batch.new
-        ≡ take at batch.old ++ write_vector (make_vector (sets.under keys) sqn amf rand)
-        ++ drop (at + vector_size) batch.old }
+) -> Vector
+    requires { IsRoundTable table.now }
+    ensures { (keys : KeysOf) → Prepared keys rand schedule.now c → vector_of result ≡ make_vector (sets.under keys) sqn amf rand }
 {
-    let both = functions::f2_f5(table, schedule, c);
-    let xres = both.res;
-    let ak = both.ak;
+    let ResAk { res: xres, ak } = functions::f2_f5(table, schedule, c);
     let ck = functions::f3(table, schedule, c);
     let ik = functions::f4(table, schedule, c);
     let autn = autn(table, schedule, c, ak, sqn, amf);
-    put_parts(batch, at, rand, xres, ck, ik, autn);
+    Vector {
+        rand,
+        xres,
+        ck,
+        ik,
+        autn,
+    }
+}
+
+// Puts a vector into a batch, from `at` on. What stands before and behind stays.
+pub fn put(v: Vector, batch: &mut [u8], at: usize)
+    requires { at + vector_size ≤ length batch.old }
+    ensures { batch.new ≡ take at batch.old ++ write_vector (vector_of v) ++ drop (at + vector_size) batch.old }
+{
+    octets::put(batch, at, &v.rand);
+    octets::put(batch, at + aka::XRES_AT, &v.xres);
+    octets::put(batch, at + aka::CK_AT, &v.ck);
+    octets::put(batch, at + aka::IK_AT, &v.ik);
+    octets::put(batch, at + aka::AUTN_AT, &v.autn);
 }

@@ -7,7 +7,6 @@ ghost use Rattle.std.specs.Prelude.{◌≡◌};
 ghost use Rattle.vetrhoss.specs.Interface.{opc_call, new_usim_call, new_auc_call, challenge_call, order_call, resync_call};
 ghost use Rattle.vetrhoss.specs.Interface.{vector_at_call, triplets_call};
 
-use auc::Offset;
 use interface_answers::{auc_answer, buffers, results, usim_answer};
 use usim::Verdict;
 
@@ -183,8 +182,7 @@ pub extern "C" fn vetrhoss_resynchronise(
 pub extern "C" fn vetrhoss_vector_at(batch: &[u8], k: u64) -> u64
     ensures { result ≡ vector_at_call batch.now k }
 {
-    let offset = auc::offset_of(batch.len(), k);
-    let Offset::At(at) = offset else {
+    let Some(at) = auc::offset_of(batch.len(), k) else {
         return 3;
     };
     results::both(0, at as u64)

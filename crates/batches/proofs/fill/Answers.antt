@@ -12,7 +12,7 @@ use Rattle.batches.proofs.fill.Goals as goal
 pub loop-k-init : goal.loop-k-init
 loop-k-init c =
     let none = batch_none editions sets (counted_by c.args.s) c.args.s.from c.args.rands.now in
-    record { within = omega arith; filled = rw none (record { size = refl; is = refl }) }
+    rw none (record { size = refl; is = refl })
 
 pub loop-k-preserved : goal.loop-k-preserved
 loop-k-preserved c =
@@ -21,12 +21,12 @@ loop-k-preserved c =
     let rands = c.args.rands.now in
     let further : vector_size * l.k + vector_size ≡ vector_size * (l.k + 1) = omega arith in
     let vector = write_vector (vector_from editions sets (counted_by s) s.from rands l.k) in
-    let next = put_next vector vector_size l.invariant.filled c.put_at.ensures (c.put_at.auto.batch ∙ l.auto.batch) (omega arith) in
-    record { within = omega arith; filled = rw (batch_next editions sets (counted_by s) s.from rands l.k, ← further) next }
+    let next = put_next vector vector_size l.invariant c.put_at.ensures (c.put_at.auto.batch ∙ l.auto.batch) (omega arith) in
+    rw (batch_next editions sets (counted_by s) s.from rands l.k, ← further) next
 
 pub returns : goal.returns
 returns c =
     let l = c.loop-k in
     let s = c.args.s in
     let end : l.k ≡ c.args.n = omega arith in
-    filled_all l.invariant.filled (omega (arith, end)) ∙ ap (batch_from editions sets (counted_by s) s.from c.args.rands.now) end
+    filled_all l.invariant (omega (arith, end)) ∙ ap (batch_from editions sets (counted_by s) s.from c.args.rands.now) end

@@ -1,5 +1,5 @@
 -- The vectors before place k are filled in.
-use Rattle.std.proofs.Common.{◌-◌, ◌*◌, ◌≤◌}
+use Rattle.std.proofs.Common.{◌*◌}
 use Rattle.octets.proofs.PartByPart.{Filled}
 use Rattle.functions.specs.Sets.{sets}
 use Rattle.aka.specs.Layout.{vector_size}
@@ -9,10 +9,4 @@ use Rattle.batches.specs.Views.{counted_by}
 use Rattle.batches.proofs.fill.Given as goal
 
 abbrev pub invariant-loop-k : goal.invariant-loop-k
-invariant-loop-k l = record {
-  within : l.k ≤ l.n;
-  filled : Filled l.initial.batch (batch_from editions sets (counted_by l.s) l.s.from l.rands l.k) (vector_size * l.k) l.batch;
-}
-
-abbrev pub decreases-loop-k : goal.decreases-loop-k
-decreases-loop-k l = l.n - l.k
+invariant-loop-k l = Filled l.initial.batch (batch_from editions sets (counted_by l.s) l.s.from l.rands l.k) (vector_size * l.k) l.batch
