@@ -9,7 +9,7 @@ use borrow.Author.Tests.{le-leb, lt-ltb}
 use lib.ListN.{length}
 use lib.Pow.{pow_pos}
 use Rattle.octets.specs.Octets.{Octets, xor, equal, encode}
-use Rattle.octets.proofs.Xor.{length_xor, xor_twice}
+use Rattle.octets.proofs.XorLaws.{length_xor, xor_twice}
 use Rattle.aka.specs.Layout.{all_zero, Autn, sqn_size, mac_size, write_autn, rand_at}
 use Rattle.aka.specs.Functions.{Functions, Family, Lengths, Lawful, dummy_amf}
 use Rattle.aka.specs.Sequence.{indices, limit, sqn_of}

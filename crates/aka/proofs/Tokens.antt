@@ -5,7 +5,7 @@ use mathlib.Core.Path.{◌≡◌, sym, ap, ◌∙◌}
 use native.Mathlib.Omega.{arith}
 use lib.ListN.{length}
 use Rattle.octets.specs.Octets.{Octets, xor, equal, encode, decode}
-use Rattle.octets.proofs.Xor.{length_xor, xor_twice}
+use Rattle.octets.proofs.XorLaws.{length_xor, xor_twice}
 use Rattle.octets.proofs.Strings.{equal_self}
 use Rattle.octets.proofs.Numbers.{length_digits, number_digits_fits}
 use Rattle.aka.specs.Layout.{Autn, Auts, sqn_size, amf_size, rand_size, autn_size, auts_size, read_autn, read_auts}

@@ -9,7 +9,7 @@ use lib.Dec.{eqb}
 use lib.ListN.{length, replicate}
 use Rattle.octets.specs.Octets.{Octets, zeros, part, xor}
 use Rattle.octets.proofs.Parts.{past, length_part}
-use Rattle.octets.proofs.Xor.{length_xor, xor_zeros}
+use Rattle.octets.proofs.XorLaws.{length_xor, xor_zeros}
 use Rattle.aka.specs.Layout.{Vector, triplet, rand_size, res_size, ck_size, ik_size, sres_size, kc_size, vector_size, triplet_size}
 use Rattle.aka.specs.Layout.{xres_at, ck_at, ik_at, write_triplet, read_triplet, read_vector, vector_at, octets_at, is_batch}
 use Rattle.aka.specs.Triplets.{padded, quarter, half, sres_of, kc_of, triplet_of, sizes_fit, triplets_of, convert, Converted}

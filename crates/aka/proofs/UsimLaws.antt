@@ -12,7 +12,7 @@ use Rattle.octets.proofs.Absurd.{zero_not_one}
 use Rattle.octets.proofs.Numbers.{number_lt}
 use Rattle.octets.proofs.Parts.{length_part}
 use Rattle.octets.proofs.Ranges.{below_part, below_xor}
-use Rattle.octets.proofs.Xor.{length_xor}
+use Rattle.octets.proofs.XorLaws.{length_xor}
 use Rattle.aka.specs.Layout.{rand_size, autn_size, sqn_size, auts_size, read_autn, write_auts}
 use Rattle.aka.specs.Functions.{Keys, Functions, Family, Shaped, Lawful}
 use Rattle.aka.specs.Sequence.{Scheme, Fitting, width_of, FitsSqn, indices, limit}

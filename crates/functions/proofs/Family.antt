@@ -7,7 +7,7 @@ use native.Mathlib.Omega.{arith}
 use lib.Dec.{eqb}
 use lib.ListN.{length, take, length-append}
 use Rattle.octets.specs.Octets.{Octets, part, xor, turn_left, Below}
-use Rattle.octets.proofs.Xor.{length_xor}
+use Rattle.octets.proofs.XorLaws.{length_xor}
 use Rattle.octets.proofs.Strings.{length-turn_left}
 use Rattle.octets.proofs.Parts.{length_part}
 use Rattle.octets.proofs.Ranges.{below_part, below_xor}

@@ -2,7 +2,6 @@
 use Prim.Native.Nat.{ℕ, ◌+◌, ◌<◌}
 use mathlib.Core.Bool.{Bool, true, false, ◌&&◌, and_assoc}
 use mathlib.Core.Path.{◌≡◌, refl, sym, ap, ◌∙◌}
-use native.Mathlib.Omega.{arith}
 use borrow.Author.Tests.{eqb-true, eqb-false, eq-eqb, ne_eqb}
 use lib.Bits.{bit_or, bit_xor, xor_zero_l, xor_self}
 use lib.Dec.{eqb}
@@ -10,7 +9,7 @@ use lib.ListN.{length, get_or, drop}
 use Rattle.octets.specs.Octets.{Octets, equal}
 use Rattle.octets.proofs.Or.{both_zero}
 use Rattle.octets.proofs.Parts.{drop_next}
-use Rattle.octets.proofs.Xor.{bit_xor-twice}
+use Rattle.octets.proofs.XorLaws.{bit_xor-twice}
 
 xor_zero : (a b : ℕ) → bit_xor a b ≡ 0 → a ≡ b
 xor_zero a b e = sym (bit_xor-twice a b) ∙ ap (λ (x : ℕ). bit_xor x b) e ∙ xor_zero_l b

@@ -1,5 +1,5 @@
 pub mod Absurd
-pub mod Xor
+pub mod XorLaws
 pub mod Or
 pub mod Numbers
 pub mod Strings

@@ -12,7 +12,7 @@ use lib.Bits.{bit_xor, xor_shr, xor_mod}
 use lib.ListN.{length, get_or, length-append, get_or-append}
 use lib.Seq.{get_or_at}
 use Rattle.octets.specs.Octets.{xor, Below, digits, spelt, number}
-use Rattle.octets.proofs.Xor.{xor_append}
+use Rattle.octets.proofs.XorLaws.{xor_append}
 
 power_pos : (base n : ℕ) → 0 < base → 0 < base ^ n
 power_pos base zero h = rw pow-zero (omega arith)

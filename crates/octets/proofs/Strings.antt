@@ -1,6 +1,6 @@
 -- Laws of equality, turning, parts and zeros. Assumes nothing.
 use Prim.Native.Nat.{ℕ, zero, suc, ◌+◌, ◌-◌, ◌≤◌}
-use mathlib.Core.Bool.{true, false, true≢false, and-eq-true_iff}
+use mathlib.Core.Bool.{true, true≢false, and-eq-true_iff}
 use mathlib.Core.List.{[], ◌∷◌}
 use mathlib.Core.Path.{◌≡◌, refl, sym, ap, ap₂, ◌∙◌}
 use native.Mathlib.Omega.{arith}

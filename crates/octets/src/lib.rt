@@ -2,8 +2,8 @@
 // octets that several layers call.
 #![tactic(auto)]
 
-ghost use Rattle.std.specs.Prelude.{◌++◌, ◌≡◌, ◌+◌, ◌≤◌, length, take, drop};
-ghost use Rattle.octets.specs.Octets.{part, xor, equal as equal_to};
+ghost use Rattle.std.specs.Prelude.{◌++◌, ◌≡◌, ◌+◌, ◌≤◌, ◌<◌, length, take, drop};
+ghost use Rattle.octets.specs.Octets.{part, xor as xor_of, equal as equal_to};
 
 // Whether two strings of one length are equal. It ends at the first difference, and so is for what is no secret, like a RAND.
 pub fn equal(x: &[u8], y: &[u8]) -> bool
@@ -95,7 +95,7 @@ pub fn six(x: [u8; 16], at: usize) -> [u8; 6]
 }
 
 pub fn xor8(x: [u8; 8], y: [u8; 8]) -> [u8; 8]
-    ensures { result ≡ xor x y }
+    ensures { result ≡ xor_of x y }
 {
     [
         x[0] ^ y[0],
@@ -107,4 +107,31 @@ pub fn xor8(x: [u8; 8], y: [u8; 8]) -> [u8; 8]
         x[6] ^ y[6],
         x[7] ^ y[7],
     ]
+}
+
+// N lent octets as an array.
+pub fn array<const N: usize>(s: &[u8]) -> [u8; N]
+    requires { length s.now ≡ N }
+    ensures { result ≡ s.now }
+{
+    s.try_into().unwrap()
+}
+
+// N octets of a block, from `at` on.
+pub fn piece<const N: usize>(x: [u8; 16], at: usize) -> [u8; N]
+    requires { at + N ≤ 16 }
+    ensures { result ≡ part at N x }
+{
+    array(&x[at..at + N])
+}
+
+// The sum of two strings of N octets, octet by octet.
+pub fn xor<const N: usize>(x: [u8; N], y: [u8; N]) -> [u8; N]
+    ensures { result ≡ xor_of x.entry y.entry }
+{
+    let mut sum = x;
+    for (i, octet) in sum.iter_mut().enumerate() {
+        *octet ^= y[i];
+    }
+    sum
 }

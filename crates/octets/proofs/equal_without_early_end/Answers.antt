@@ -1,4 +1,4 @@
-use Rattle.std.proofs.Common.{sym, ◌∙◌, drop, arith}
+use Rattle.std.proofs.Common.{sym, ◌∙◌, arith}
 use mathlib.Core.Bool.{and-true}
 use lib.ListN.{drop_of_length-le}
 use Rattle.octets.specs.Octets.{equal}

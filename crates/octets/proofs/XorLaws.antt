@@ -1,12 +1,14 @@
 -- Laws of xor, on numbers and on octet strings. Assumes nothing.
 use Prim.Native.Nat.{ℕ, zero, suc, ◌+◌, ◌*◌, ◌/◌, ◌%◌, ◌≤◌, ◌<◌}
-use mathlib.Core.List.{[], ◌∷◌, ◌++◌}
+use mathlib.Core.List.{[], ◌∷◌, ◌++◌, append-nil}
 use mathlib.Core.Path.{◌≡◌, refl, ap, ap₂, ◌∙◌}
 use native.Mathlib.Nat.{div-add-mod'}
+use native.Mathlib.Numerals.{add-one}
 use native.Mathlib.Omega.{arith}
 use lib.Arith.{bin_ind}
 use lib.Bits.{bit_xor, xor_step, xor_shr, xor_mod, differ, xor_zero_l, xor_zero_r, xor_self}
-use lib.ListN.{length, get_or}
+use lib.ListN.{length, get_or, set, take, drop, drop_of_length-le}
+use lib.Seq.{take_all}
 use Rattle.octets.specs.Octets.{Octets, zeros, xor}
 
 -- ---- on numbers
@@ -71,3 +73,28 @@ xor_append [] x' [] y' h = refl
 xor_append [] x' (b ∷ y) y' h = absurd (omega arith)
 xor_append (a ∷ x) x' [] y' h = absurd (omega arith)
 xor_append (a ∷ x) x' (b ∷ y) y' h = ap (λ (l : Octets). bit_xor a b ∷ l) (xor_append x x' y y' (omega arith))
+
+-- ---- a sum that is made in the place of x, octet by octet: those before i are summed, and those from i on are still those of x
+
+unfoldable pub summed : ℕ → Octets → Octets → Octets
+summed i x y = xor (take i x) (take i y) ++ drop i x
+
+sum_next : (i : ℕ) (x y : Octets) → i < length x → i < length y
+    → set (summed i x y) i (bit_xor (get_or (summed i x y) i 0) (get_or y i 0)) ≡ summed (suc i) x y
+unfolding xor summed
+sum_next i [] y h g = absurd (omega arith)
+sum_next i (a ∷ x) [] h g = absurd (omega arith)
+sum_next zero (a ∷ x) (b ∷ y) h g = refl
+sum_next (suc i) (a ∷ x) (b ∷ y) h g = ap (λ (l : Octets). bit_xor a b ∷ l) (sum_next i x y (omega arith) (omega arith))
+
+pub summed_next : (i : ℕ) (x y : Octets) {l : Octets} → l ≡ summed i x y → i < length x → i < length y
+    → set l i (bit_xor (get_or l i 0) (get_or y i 0)) ≡ summed (i + 1) x y
+summed_next i x y e h g = rw (e, add-one i) (sum_next i x y h g)
+
+pub summed_all : (x y : Octets) (n : ℕ) → length x ≡ n → length y ≡ n → summed n x y ≡ xor x y
+unfolding summed
+summed_all x y n h g = rw (take_all n x (omega arith), take_all n y (omega arith), drop_of_length-le x {i = n} (omega arith)) (append-nil (xor x y))
+
+pub summed_none : (x y : Octets) → x ≡ summed 0 x y
+unfolding xor summed
+summed_none x y = refl
