@@ -1,8 +1,7 @@
 // AES-128 of FIPS 197: the cipher of one block.
 //
-// The state is four words, its columns, and a round is sixteen look-ups in one table. Table and key schedule are made once,
-// by `aes_tables::round_table` and `aes_schedule::key_expansion`, and lent for each block. `w` is the standard's letter for the key
-// schedule.
+// The state is four words, its columns, and a round is sixteen look-ups in one table. A `Cipher` holds the table and a key schedule. It
+// is made once for a key, and lent for each block.
 #![tactic(auto)]
 
 ghost use Rattle.std.specs.Prelude.{◌≡◌, [], ◌∷◌, ◌≤◌};
@@ -11,90 +10,116 @@ ghost use Rattle.aes_tables.specs.Sbox.{sbox};
 ghost use Rattle.aes_tables.specs.RoundTable.{IsRoundTable};
 ghost use Rattle.aes_words.specs.Words.{octet};
 ghost use Rattle.aes_words.specs.Block.{octets_of};
+ghost use Rattle.aes_schedule.specs.KeyExpansion.{key_expansion};
+ghost use Rattle.aes.specs.RoundTable.{IsRoundTable-prop};
 ghost use Rattle.aes.specs.Cipher.{mix_column, add_round_key, one_round, last_round, cipher};
 
 pub use aes_tables::round_table;
 use aes_words::Block;
 
-// One column of a round: its octets come from four columns of the state, `k` is its word of the round key.
-fn column(table: &[u32; 256], a: u32, b: u32, c: u32, d: u32, k: u32) -> u32
-    requires { IsRoundTable table.now }
-    ensures { encode 4 result ≡ xor (mix_column (sbox (octet 0 a)) (sbox (octet 1 b)) (sbox (octet 2 c)) (sbox (octet 3 d))) (encode 4 k) }
-{
-    let e = ((a >> 24) % 256) as usize;
-    let f = ((b >> 16) % 256) as usize;
-    let g = ((c >> 8) % 256) as usize;
-    let h = (d % 256) as usize;
-    table[e]
-        ^ aes_words::left3(table[f])
-        ^ aes_words::left2(table[g])
-        ^ aes_words::left1(table[h])
-        ^ k
+// The cipher under one key. The schedule may be any 44 words: what a method promises is said of these.
+#[derive(Drop)]
+pub struct Cipher {
+    pub table: [u32; 256],
+    pub schedule: [u32; 44],
+    pub ghost is_round_table: { IsRoundTable table } by { IsRoundTable-prop table },
 }
 
-// The same in the last round, which does not mix the columns. The S-box's value is the second octet of the table's word.
-fn last_column(table: &[u32; 256], a: u32, b: u32, c: u32, d: u32, k: u32) -> u32
-    requires { IsRoundTable table.now }
-    ensures { encode 4 result ≡ xor (sbox (octet 0 a) ∷ sbox (octet 1 b) ∷ sbox (octet 2 c) ∷ sbox (octet 3 d) ∷ []) (encode 4 k) }
-{
-    let e = ((a >> 24) % 256) as usize;
-    let f = ((b >> 16) % 256) as usize;
-    let g = ((c >> 8) % 256) as usize;
-    let h = (d % 256) as usize;
-    aes_words::word(
-        aes_words::second(table[e]),
-        aes_words::second(table[f]),
-        aes_words::second(table[g]),
-        aes_words::second(table[h]),
-    ) ^ k
-}
-
-fn add_round_key(w: &[u32; 44], s: Block) -> Block
-    ensures { octets_of result ≡ add_round_key w.now 0 (octets_of s) }
-{
-    Block {
-        a: s.a ^ w[0],
-        b: s.b ^ w[1],
-        c: s.c ^ w[2],
-        d: s.d ^ w[3],
+impl Cipher {
+    // The cipher under a key.
+    pub fn new(key: Block) -> Self
+        ensures { result.schedule ≡ key_expansion (octets_of key) }
+    {
+        Cipher::with_schedule(aes_schedule::key_expansion(key))
     }
-}
 
-fn one_round(table: &[u32; 256], w: &[u32; 44], round: usize, s: Block) -> Block
-    requires { (round ≤ 10) × IsRoundTable table.now }
-    ensures { octets_of result ≡ one_round w.now round (octets_of s) }
-{
-    let i = 4 * round;
-    Block {
-        a: column(table, s.a, s.b, s.c, s.d, w[i]),
-        b: column(table, s.b, s.c, s.d, s.a, w[i + 1]),
-        c: column(table, s.c, s.d, s.a, s.b, w[i + 2]),
-        d: column(table, s.d, s.a, s.b, s.c, w[i + 3]),
+    // The cipher with a key schedule, whatever it holds.
+    pub fn with_schedule(schedule: [u32; 44]) -> Self
+        ensures { result.schedule ≡ schedule }
+    {
+        Cipher {
+            table: aes_tables::round_table(),
+            schedule,
+        }
     }
-}
 
-fn last_round(table: &[u32; 256], w: &[u32; 44], s: Block) -> Block
-    requires { IsRoundTable table.now }
-    ensures { octets_of result ≡ last_round w.now 10 (octets_of s) }
-{
-    Block {
-        a: last_column(table, s.a, s.b, s.c, s.d, w[40]),
-        b: last_column(table, s.b, s.c, s.d, s.a, w[41]),
-        c: last_column(table, s.c, s.d, s.a, s.b, w[42]),
-        d: last_column(table, s.d, s.a, s.b, s.c, w[43]),
+    // One block.
+    pub fn encrypt(&self, input: Block) -> Block
+        ensures { octets_of result ≡ cipher self.now.schedule (octets_of input) }
+    {
+        let mut s = self.add_round_key(input);
+        for round in 1..10 {
+            s = self.one_round(round, s);
+        }
+        self.last_round(s)
     }
-}
 
-// One block under a key schedule.
-pub fn encrypt(table: &[u32; 256], w: &[u32; 44], input: Block) -> Block
-    requires { IsRoundTable table.now }
-    ensures { octets_of result ≡ cipher w.now (octets_of input) }
-{
-    let mut s = add_round_key(w, input);
-    let mut done = 0;
-    while done < 9 {
-        s = one_round(table, w, done + 1, s);
-        done += 1;
+    fn add_round_key(&self, s: Block) -> Block
+        ensures { octets_of result ≡ add_round_key self.now.schedule 0 (octets_of s) }
+    {
+        let w = &self.schedule;
+        Block {
+            a: s.a ^ w[0],
+            b: s.b ^ w[1],
+            c: s.c ^ w[2],
+            d: s.d ^ w[3],
+        }
     }
-    last_round(table, w, s)
+
+    fn one_round(&self, round: usize, s: Block) -> Block
+        requires { round ≤ 10 }
+        ensures { octets_of result ≡ one_round self.now.schedule round (octets_of s) }
+    {
+        let w = &self.schedule;
+        let i = 4 * round;
+        Block {
+            a: self.column(s.a, s.b, s.c, s.d, w[i]),
+            b: self.column(s.b, s.c, s.d, s.a, w[i + 1]),
+            c: self.column(s.c, s.d, s.a, s.b, w[i + 2]),
+            d: self.column(s.d, s.a, s.b, s.c, w[i + 3]),
+        }
+    }
+
+    fn last_round(&self, s: Block) -> Block
+        ensures { octets_of result ≡ last_round self.now.schedule 10 (octets_of s) }
+    {
+        let w = &self.schedule;
+        Block {
+            a: self.last_column(s.a, s.b, s.c, s.d, w[40]),
+            b: self.last_column(s.b, s.c, s.d, s.a, w[41]),
+            c: self.last_column(s.c, s.d, s.a, s.b, w[42]),
+            d: self.last_column(s.d, s.a, s.b, s.c, w[43]),
+        }
+    }
+
+    // One column of a round: its octets come from four columns of the state, `k` is its word of the round key.
+    fn column(&self, a: u32, b: u32, c: u32, d: u32, k: u32) -> u32
+        ensures { encode 4 result ≡ xor (mix_column (sbox (octet 0 a)) (sbox (octet 1 b)) (sbox (octet 2 c)) (sbox (octet 3 d))) (encode 4 k) }
+    {
+        let e = ((a >> 24) % 256) as usize;
+        let f = ((b >> 16) % 256) as usize;
+        let g = ((c >> 8) % 256) as usize;
+        let h = (d % 256) as usize;
+        self.table[e]
+            ^ aes_words::left3(self.table[f])
+            ^ aes_words::left2(self.table[g])
+            ^ aes_words::left1(self.table[h])
+            ^ k
+    }
+
+    // The same in the last round, which does not mix the columns. The S-box's value is the second octet of the table's word.
+    fn last_column(&self, a: u32, b: u32, c: u32, d: u32, k: u32) -> u32
+        ensures { encode 4 result ≡ xor (sbox (octet 0 a) ∷ sbox (octet 1 b) ∷ sbox (octet 2 c) ∷ sbox (octet 3 d) ∷ []) (encode 4 k) }
+    {
+        let e = ((a >> 24) % 256) as usize;
+        let f = ((b >> 16) % 256) as usize;
+        let g = ((c >> 8) % 256) as usize;
+        let h = (d % 256) as usize;
+        aes_words::word(
+            aes_words::second(self.table[e]),
+            aes_words::second(self.table[f]),
+            aes_words::second(self.table[g]),
+            aes_words::second(self.table[h]),
+        ) ^ k
+    }
 }

@@ -8,6 +8,7 @@ ghost use Rattle.aes.specs.Cipher.{aes};
 ghost use Rattle.console.specs.Turns.{AnsweredIf, Gives, Ran, standing_of};
 ghost use Rattle.aes_vectors.specs.Answer.{answered, answer_text, line_answer, line_size, room, well_formed};
 
+use aes::Cipher;
 use console::Progress;
 use std::io::{Read, Write};
 
@@ -18,12 +19,11 @@ const LINE_SIZE: usize = 65;
 const ROOM: usize = 33;
 
 // One block under a key.
-fn encrypted(table: &[u32; 256], key: [u8; 16], block: [u8; 16]) -> [u8; 16]
-    requires { IsRoundTable table.now }
+fn encrypted(key: [u8; 16], block: [u8; 16]) -> [u8; 16]
     ensures { result ≡ aes key block }
 {
-    let w = aes_schedule::key_expansion(aes_words::from_octets(key));
-    aes_words::to_octets(aes::encrypt(table, &w, aes_words::from_octets(block)))
+    let cipher = Cipher::new(aes_words::from_octets(key));
+    aes_words::to_octets(cipher.encrypt(aes_words::from_octets(block)))
 }
 
 // Whether the line is well formed: then `out`, of 32 bytes, is the ciphertext in hex, and else as it was.
@@ -39,7 +39,7 @@ fn ciphertext(table: &[u32; 256], line: &[u8], out: &mut [u8]) -> bool
     let mut key = [0u8; 16];
     let mut block = [0u8; 16];
     if hex_digits::read(&line[..32], &mut key) & fields::hex_field(line, 32, &mut block) {
-        return hex_digits::write(&encrypted(table, key, block), out);
+        return hex_digits::write(&encrypted(key, block), out);
     }
     false
 }

@@ -17,7 +17,7 @@ ghost use Rattle.function_vectors.specs.Answer.{amf_at, k_at, line_size, macs_si
 ghost use Rattle.function_vectors.specs.Answer.{answer_text, challenge_formed, keys_formed, line_answer, outputs_text};
 
 use console::Progress;
-use functions::Keys;
+use functions::{Keys, PreparedKeys, ResAk};
 use std::io::{Read, Write};
 
 // Where the fields of a line begin, each with the space before it, and the bytes of a line that is well formed.
@@ -56,25 +56,21 @@ pub struct Outputs {
 
 // The seven outputs under one subscriber's keys, with one key schedule and one T.
 fn seven(
-    table: &[u32; 256],
     keys: Keys,
     rand: [u8; aka::RAND_SIZE],
     sqn: [u8; aka::SQN_SIZE],
     amf: [u8; aka::AMF_SIZE],
 ) -> Outputs
-    requires { IsRoundTable table.now }
     ensures { Answers (sets.under (keys_of keys)) rand sqn amf result }
 {
-    let schedule = functions::schedule(keys);
-    let c = functions::prepare(table, &schedule, keys, rand);
-    let mac = functions::f1(table, &schedule, c, sqn, amf);
-    let macs = functions::f1s(table, &schedule, c, sqn, amf);
-    let both = functions::f2_f5(table, &schedule, c);
-    let ck = functions::f3(table, &schedule, c);
-    let ik = functions::f4(table, &schedule, c);
-    let aks = functions::f5s(table, &schedule, c);
-    let res = both.res;
-    let ak = both.ak;
+    let keys = PreparedKeys::new(keys);
+    let prepared = keys.prepare(rand);
+    let mac = prepared.f1(sqn, amf);
+    let macs = prepared.f1s(sqn, amf);
+    let ResAk { res, ak } = prepared.f2_f5();
+    let ck = prepared.f3();
+    let ik = prepared.f4();
+    let aks = prepared.f5s();
     Outputs {
         mac,
         macs,
@@ -233,7 +229,7 @@ fn write_answer(table: &[u32; 256], line: &[u8], text: &mut [u8]) -> usize
     let rand = challenge.rand;
     let sqn = challenge.sqn;
     let amf = challenge.amf;
-    put_outputs(text, seven(table, keys, rand, sqn, amf))
+    put_outputs(text, seven(keys, rand, sqn, amf))
 }
 
 // ---- the loop

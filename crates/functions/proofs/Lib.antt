@@ -1,3 +1,4 @@
+pub mod Prepared
 pub mod Outputs
 pub mod Family
 pub mod Protocol

@@ -1,3 +1,4 @@
 pub mod Sets
 pub mod Challenge
 pub mod SampleRun
+pub mod PreparedRand

@@ -1,15 +1,31 @@
-// The authentication functions f1 to f5* of sets 0 and 1. Once a call: `schedule`; once a RAND: `prepare`, whose result each function
-// takes. The round table of AES is lent throughout.
+// The authentication functions f1 to f5* of sets 0 and 1. Once a call: `PreparedKeys::new`; once a RAND: its `prepare`, and each function
+// is a method of what that gives.
+//
+//     let keys = PreparedKeys::new(keys);
+//     let prepared = keys.prepare(rand);
+//     let mac = prepared.f1(sqn, amf);
 //
 // A set above 1 is the caller's to refuse; here it counts as MILENAGE.
 #![tactic(auto)]
 
-ghost use Rattle.std.specs.Prelude.{◌≡◌};
-ghost use Rattle.aes_tables.specs.RoundTable.{IsRoundTable};
-ghost use Rattle.functions.specs.Sets.{is_set, sets};
-ghost use Rattle.functions.specs.Challenge.{keys_of, schedule_of, IsSchedule, outputs_from, Prepared};
+mod lent;
 
+ghost use Rattle.std.specs.Prelude.{◌≡◌};
+ghost use Rattle.functions.specs.Sets.{is_set, sets};
+ghost use Rattle.functions.specs.Challenge.{keys_of, IsSchedule};
+ghost use Rattle.functions.specs.PreparedRand.{outputs_from, Prepared};
+
+use aes::Cipher;
 use aes_words::Block;
+pub use lent::{f1, f1s, f2_f5, f3, f4, f5s, prepare, schedule};
+
+// The same for callers that lend the round table and the key schedule: see `lent`.
+#[derive(Clone, Copy, Drop)]
+pub struct Challenge {
+    pub set: u8,
+    pub opc: Block,
+    pub base: Block,
+}
 
 // What USIM and AuC hold of a subscriber: the function set, K and OPc.
 #[derive(Clone, Copy, Drop)]
@@ -19,12 +35,19 @@ pub struct Keys {
     pub opc: [u8; aka::KEY_SIZE],
 }
 
-// A RAND taken up: `base` is X of set 0, T of MILENAGE.
+// A subscriber's keys, with the cipher for every RAND under them. Set 0 has no use for one: its key schedule is zeros.
+#[derive(Drop)]
+pub struct PreparedKeys {
+    pub keys: Keys,
+    pub cipher: Cipher,
+    pub ghost made: { IsSchedule (keys_of keys) cipher.schedule },
+}
+
+// A RAND taken up: X of set 0, or what MILENAGE makes its outputs of. It may be any: what a method promises is said of its parts.
 #[derive(Clone, Copy, Drop)]
-pub struct Challenge {
-    pub set: u8,
-    pub opc: Block,
-    pub base: Block,
+pub enum PreparedRand<'a> {
+    TestSet(Block),
+    Milenage(milenage::Outputs<'a>),
 }
 
 // RES and AK.
@@ -45,153 +68,112 @@ pub fn is_known(set: u8) -> bool
 pub fn admits(edition: u8, keys: Keys) -> bool
     ensures { result ≡ sets.admits edition (keys_of keys) }
 {
-    if !editions::is_known(edition) {
-        return false;
-    }
-    is_known(keys.set)
+    editions::is_known(edition) && is_known(keys.set)
 }
 
-// The key schedule, for every challenge under these keys. Set 0 has no use for one.
-pub fn schedule(keys: Keys) -> [u32; 44]
-    ensures { result ≡ schedule_of (keys_of keys) }
-{
-    let set = keys.set;
-    if set == 0 {
-        return [0; 44];
-    }
-    let k = keys.k;
-    aes_schedule::key_expansion(aes_words::from_octets(k))
-}
-
-// A RAND taken up under the keys, with their schedule.
-pub fn prepare(
-    table: &[u32; 256],
-    schedule: &[u32; 44],
-    keys: Keys,
-    rand: [u8; aka::RAND_SIZE],
-) -> Challenge
-    requires { IsRoundTable table.now × IsSchedule (keys_of keys) schedule.now }
-    ensures { Prepared (keys_of keys) rand schedule.now result }
-{
-    let set = keys.set;
-    let k = keys.k;
-    let o = keys.opc;
-    let opc = aes_words::from_octets(o);
-    if set == 0 {
-        let x = test_set::x(k, rand);
-        return Challenge { set, opc, base: x };
-    }
-    let temp = milenage::temp(table, schedule, opc, aes_words::from_octets(rand));
-    Challenge {
-        set,
-        opc,
-        base: temp,
-    }
-}
-
-// MAC: f1 of SQN, RAND and AMF.
-pub fn f1(
-    table: &[u32; 256],
-    schedule: &[u32; 44],
-    c: Challenge,
-    sqn: [u8; aka::SQN_SIZE],
-    amf: [u8; aka::AMF_SIZE],
-) -> [u8; aka::MAC_SIZE]
-    requires { IsRoundTable table.now }
-    ensures { result ≡ (outputs_from schedule.now c).f1 sqn amf }
-{
-    let set = c.set;
-    let opc = c.opc;
-    let base = c.base;
-    if set == 0 {
-        return test_set::mac(base, sqn, amf);
-    }
-    let out1 = milenage::out1(table, schedule, opc, base, milenage::in1(sqn, amf));
-    octets::eight(aes_words::to_octets(out1), 0)
-}
-
-// MAC-S: f1* of SQN_MS, RAND and AMF.
-pub fn f1s(
-    table: &[u32; 256],
-    schedule: &[u32; 44],
-    c: Challenge,
-    sqn: [u8; aka::SQN_SIZE],
-    amf: [u8; aka::AMF_SIZE],
-) -> [u8; aka::MAC_SIZE]
-    requires { IsRoundTable table.now }
-    ensures { result ≡ (outputs_from schedule.now c).f1* sqn amf }
-{
-    let set = c.set;
-    let opc = c.opc;
-    let base = c.base;
-    if set == 0 {
-        return test_set::mac(base, sqn, amf);
-    }
-    let out1 = milenage::out1(table, schedule, opc, base, milenage::in1(sqn, amf));
-    octets::eight(aes_words::to_octets(out1), 8)
-}
-
-// RES and AK: f2 and f5 of RAND, which MILENAGE takes from one block.
-pub fn f2_f5(table: &[u32; 256], schedule: &[u32; 44], c: Challenge) -> ResAk
-    requires { IsRoundTable table.now }
-    ensures { (result.res ≡ (outputs_from schedule.now c).f2) × (result.ak ≡ (outputs_from schedule.now c).f5) }
-{
-    let set = c.set;
-    let opc = c.opc;
-    let base = c.base;
-    if set == 0 {
-        let x = aes_words::to_octets(base);
-        return ResAk {
-            res: octets::eight(x, 0),
-            ak: octets::six(x, 3),
+impl PreparedKeys {
+    pub fn new(keys: Keys) -> Self
+        ensures { result.keys ≡ keys }
+    {
+        let cipher = if keys.set == 0 {
+            Cipher::with_schedule([0; 44])
+        } else {
+            Cipher::new(aes_words::from_octets(keys.k))
         };
+        PreparedKeys { keys, cipher }
     }
-    let out2 = aes_words::to_octets(milenage::out2(table, schedule, opc, base));
-    ResAk {
-        res: octets::eight(out2, 8),
-        ak: octets::six(out2, 0),
+
+    // A RAND taken up under the keys.
+    pub fn prepare(&self, rand: [u8; aka::RAND_SIZE]) -> PreparedRand<'_>
+        ensures { Prepared (keys_of self.now.keys) rand result }
+    {
+        if self.keys.set == 0 {
+            return PreparedRand::TestSet(test_set::x(self.keys.k, rand));
+        }
+        let opc = aes_words::from_octets(self.keys.opc);
+        let temp = milenage::temp(&self.cipher, opc, aes_words::from_octets(rand));
+        PreparedRand::Milenage(milenage::Outputs {
+            cipher: &self.cipher,
+            opc,
+            temp,
+        })
     }
 }
 
-// CK: f3 of RAND.
-pub fn f3(table: &[u32; 256], schedule: &[u32; 44], c: Challenge) -> [u8; aka::CK_SIZE]
-    requires { IsRoundTable table.now }
-    ensures { result ≡ (outputs_from schedule.now c).f3 }
-{
-    let set = c.set;
-    let opc = c.opc;
-    let base = c.base;
-    if set == 0 {
-        return test_set::turned_left(aes_words::to_octets(base), 1);
+impl PreparedRand<'_> {
+    // MAC: f1 of SQN, RAND and AMF.
+    pub fn f1(&self, sqn: [u8; aka::SQN_SIZE], amf: [u8; aka::AMF_SIZE]) -> [u8; aka::MAC_SIZE]
+        ensures { result ≡ (outputs_from self.now).f1 sqn amf }
+    {
+        match *self {
+            PreparedRand::TestSet(x) => test_set::mac(x, sqn, amf),
+            PreparedRand::Milenage(m) => {
+                octets::eight(aes_words::to_octets(m.out1(milenage::in1(sqn, amf))), 0)
+            }
+        }
     }
-    aes_words::to_octets(milenage::out3(table, schedule, opc, base))
-}
 
-// IK: f4 of RAND.
-pub fn f4(table: &[u32; 256], schedule: &[u32; 44], c: Challenge) -> [u8; aka::IK_SIZE]
-    requires { IsRoundTable table.now }
-    ensures { result ≡ (outputs_from schedule.now c).f4 }
-{
-    let set = c.set;
-    let opc = c.opc;
-    let base = c.base;
-    if set == 0 {
-        return test_set::turned_left(aes_words::to_octets(base), 2);
+    // MAC-S: f1* of SQN_MS, RAND and AMF.
+    pub fn f1s(&self, sqn: [u8; aka::SQN_SIZE], amf: [u8; aka::AMF_SIZE]) -> [u8; aka::MAC_SIZE]
+        ensures { result ≡ (outputs_from self.now).f1* sqn amf }
+    {
+        match *self {
+            PreparedRand::TestSet(x) => test_set::mac(x, sqn, amf),
+            PreparedRand::Milenage(m) => {
+                octets::eight(aes_words::to_octets(m.out1(milenage::in1(sqn, amf))), 8)
+            }
+        }
     }
-    aes_words::to_octets(milenage::out4(table, schedule, opc, base))
-}
 
-// AK*: f5* of RAND.
-pub fn f5s(table: &[u32; 256], schedule: &[u32; 44], c: Challenge) -> [u8; aka::SQN_SIZE]
-    requires { IsRoundTable table.now }
-    ensures { result ≡ (outputs_from schedule.now c).f5* }
-{
-    let set = c.set;
-    let opc = c.opc;
-    let base = c.base;
-    if set == 0 {
-        return octets::six(aes_words::to_octets(base), 3);
+    // RES and AK: f2 and f5 of RAND, which MILENAGE takes from one block.
+    pub fn f2_f5(&self) -> ResAk
+        ensures { (result.res ≡ (outputs_from self.now).f2) × (result.ak ≡ (outputs_from self.now).f5) }
+    {
+        match *self {
+            PreparedRand::TestSet(x) => {
+                let x = aes_words::to_octets(x);
+                ResAk {
+                    res: octets::eight(x, 0),
+                    ak: octets::six(x, 3),
+                }
+            }
+            PreparedRand::Milenage(m) => {
+                let out2 = aes_words::to_octets(m.out2());
+                ResAk {
+                    res: octets::eight(out2, 8),
+                    ak: octets::six(out2, 0),
+                }
+            }
+        }
     }
-    let out5 = milenage::out5(table, schedule, opc, base);
-    octets::six(aes_words::to_octets(out5), 0)
+
+    // CK: f3 of RAND.
+    pub fn f3(&self) -> [u8; aka::CK_SIZE]
+        ensures { result ≡ (outputs_from self.now).f3 }
+    {
+        match *self {
+            PreparedRand::TestSet(x) => test_set::turned_left(aes_words::to_octets(x), 1),
+            PreparedRand::Milenage(m) => aes_words::to_octets(m.out3()),
+        }
+    }
+
+    // IK: f4 of RAND.
+    pub fn f4(&self) -> [u8; aka::IK_SIZE]
+        ensures { result ≡ (outputs_from self.now).f4 }
+    {
+        match *self {
+            PreparedRand::TestSet(x) => test_set::turned_left(aes_words::to_octets(x), 2),
+            PreparedRand::Milenage(m) => aes_words::to_octets(m.out4()),
+        }
+    }
+
+    // AK*: f5* of RAND.
+    pub fn f5s(&self) -> [u8; aka::SQN_SIZE]
+        ensures { result ≡ (outputs_from self.now).f5* }
+    {
+        match *self {
+            PreparedRand::TestSet(x) => octets::six(aes_words::to_octets(x), 3),
+            PreparedRand::Milenage(m) => octets::six(aes_words::to_octets(m.out5()), 0),
+        }
+    }
 }

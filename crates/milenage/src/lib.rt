@@ -1,19 +1,27 @@
-// MILENAGE of 3GPP TS 35.206 on blocks of four words. The round table and the key schedule are lent; TEMP is computed once for
-// a RAND and handed to each output.
+// MILENAGE of 3GPP TS 35.206 on blocks of four words. The cipher under K is lent; TEMP is computed once for a RAND, and each output is a
+// method of what the outputs are made of.
 #![tactic(auto)]
 
 mod blocks;
 pub mod opc;
 
-ghost use Rattle.std.specs.Prelude.{◌≡◌};
+ghost use Rattle.std.specs.Prelude.{◌≡◌, ◌<◌, ◌≤◌, ◌*◌};
 ghost use Rattle.octets.specs.Octets.{xor};
-ghost use Rattle.aes_tables.specs.RoundTable.{IsRoundTable};
 ghost use Rattle.aes_words.specs.Block.{octets_of};
-ghost use Rattle.aes.specs.Cipher.{cipher};
-ghost use Rattle.milenage.specs.Milenage.{in1 as IN1, temp as TEMP, out1 as OUT1};
+ghost use Rattle.aes.specs.Cipher.{cipher as CIPHER};
+ghost use Rattle.milenage.specs.Milenage.{in1 as IN1, temp as TEMP, out1 as OUT1, out as OUT};
 ghost use Rattle.milenage.specs.Milenage.{out2 as OUT2, out3 as OUT3, out4 as OUT4, out5 as OUT5};
 
+use aes::Cipher;
 use aes_words::Block;
+
+// What OUT1 to OUT5 are made of, for one RAND. They may be any three: what a method promises is said of these.
+#[derive(Clone, Copy, Drop)]
+pub struct Outputs<'a> {
+    pub cipher: &'a Cipher,
+    pub opc: Block,
+    pub temp: Block,
+}
 
 // IN1: SQN and AMF, twice.
 pub fn in1(sqn: [u8; 6], amf: [u8; 2]) -> Block
@@ -30,63 +38,60 @@ pub fn in1(sqn: [u8; 6], amf: [u8; 2]) -> Block
 }
 
 // TEMP.
-pub fn temp(table: &[u32; 256], schedule: &[u32; 44], opc: Block, rand: Block) -> Block
-    requires { IsRoundTable table.now }
-    ensures { octets_of result ≡ TEMP (cipher schedule.now) (octets_of opc) (octets_of rand) }
+pub fn temp(cipher: &Cipher, opc: Block, rand: Block) -> Block
+    ensures { octets_of result ≡ TEMP (CIPHER cipher.now.schedule) (octets_of opc) (octets_of rand) }
 {
-    aes::encrypt(table, schedule, aes_words::xor(rand, opc))
+    cipher.encrypt(aes_words::xor(rand, opc))
 }
 
-// The cipher with OPc added behind it, as every output has it.
-fn masked(table: &[u32; 256], schedule: &[u32; 44], opc: Block, x: Block) -> Block
-    requires { IsRoundTable table.now }
-    ensures { octets_of result ≡ xor (cipher schedule.now (octets_of x)) (octets_of opc) }
-{
-    aes_words::xor(aes::encrypt(table, schedule, x), opc)
-}
+impl Outputs<'_> {
+    // OUT1, of TEMP and IN1.
+    pub fn out1(&self, in1: Block) -> Block
+        ensures { octets_of result
+            ≡ OUT1 (CIPHER self.now.cipher.now.schedule) (octets_of self.now.opc) (octets_of self.now.temp) (octets_of in1) }
+    {
+        let turned = blocks::turned(aes_words::xor(in1, self.opc), 2);
+        self.masked(aes_words::xor(self.temp, turned))
+    }
 
-// OUT1, of TEMP and IN1.
-pub fn out1(table: &[u32; 256], schedule: &[u32; 44], opc: Block, temp: Block, in1: Block) -> Block
-    requires { IsRoundTable table.now }
-    ensures { octets_of result ≡ OUT1 (cipher schedule.now) (octets_of opc) (octets_of temp) (octets_of in1) }
-{
-    let turned = blocks::left2(aes_words::xor(in1, opc));
-    masked(table, schedule, opc, aes_words::xor(temp, turned))
-}
+    pub fn out2(&self) -> Block
+        ensures { octets_of result ≡ OUT2 (CIPHER self.now.cipher.now.schedule) (octets_of self.now.opc) (octets_of self.now.temp) }
+    {
+        self.out(0, 1)
+    }
 
-// OUT2 to OUT5, of TEMP.
-pub fn out2(table: &[u32; 256], schedule: &[u32; 44], opc: Block, temp: Block) -> Block
-    requires { IsRoundTable table.now }
-    ensures { octets_of result ≡ OUT2 (cipher schedule.now) (octets_of opc) (octets_of temp) }
-{
-    masked(
-        table,
-        schedule,
-        opc,
-        blocks::with_constant(aes_words::xor(temp, opc), 1),
-    )
-}
+    pub fn out3(&self) -> Block
+        ensures { octets_of result ≡ OUT3 (CIPHER self.now.cipher.now.schedule) (octets_of self.now.opc) (octets_of self.now.temp) }
+    {
+        self.out(1, 2)
+    }
 
-pub fn out3(table: &[u32; 256], schedule: &[u32; 44], opc: Block, temp: Block) -> Block
-    requires { IsRoundTable table.now }
-    ensures { octets_of result ≡ OUT3 (cipher schedule.now) (octets_of opc) (octets_of temp) }
-{
-    let turned = blocks::left1(aes_words::xor(temp, opc));
-    masked(table, schedule, opc, blocks::with_constant(turned, 2))
-}
+    pub fn out4(&self) -> Block
+        ensures { octets_of result ≡ OUT4 (CIPHER self.now.cipher.now.schedule) (octets_of self.now.opc) (octets_of self.now.temp) }
+    {
+        self.out(2, 4)
+    }
 
-pub fn out4(table: &[u32; 256], schedule: &[u32; 44], opc: Block, temp: Block) -> Block
-    requires { IsRoundTable table.now }
-    ensures { octets_of result ≡ OUT4 (cipher schedule.now) (octets_of opc) (octets_of temp) }
-{
-    let turned = blocks::left2(aes_words::xor(temp, opc));
-    masked(table, schedule, opc, blocks::with_constant(turned, 4))
-}
+    pub fn out5(&self) -> Block
+        ensures { octets_of result ≡ OUT5 (CIPHER self.now.cipher.now.schedule) (octets_of self.now.opc) (octets_of self.now.temp) }
+    {
+        self.out(3, 8)
+    }
 
-pub fn out5(table: &[u32; 256], schedule: &[u32; 44], opc: Block, temp: Block) -> Block
-    requires { IsRoundTable table.now }
-    ensures { octets_of result ≡ OUT5 (cipher schedule.now) (octets_of opc) (octets_of temp) }
-{
-    let turned = blocks::left3(aes_words::xor(temp, opc));
-    masked(table, schedule, opc, blocks::with_constant(turned, 8))
+    // OUT2 to OUT5, of TEMP: at the rotation by `words` words and the constant `c`.
+    fn out(&self, words: usize, c: u32) -> Block
+        requires { (words ≤ 3) × (c < 256) }
+        ensures { octets_of result
+            ≡ OUT (CIPHER self.now.cipher.now.schedule) (octets_of self.now.opc) (4 * words) c (octets_of self.now.temp) }
+    {
+        let turned = blocks::turned(aes_words::xor(self.temp, self.opc), words);
+        self.masked(blocks::with_constant(turned, c))
+    }
+
+    // The cipher with OPc added behind it, as every output has it.
+    fn masked(&self, x: Block) -> Block
+        ensures { octets_of result ≡ xor (CIPHER self.now.cipher.now.schedule (octets_of x)) (octets_of self.now.opc) }
+    {
+        aes_words::xor(self.cipher.encrypt(x), self.opc)
+    }
 }

@@ -4,15 +4,14 @@ ghost use Rattle.aes_words.specs.Block.{octets_of};
 ghost use Rattle.aes.specs.Cipher.{aes as E};
 ghost use Rattle.milenage.specs.Opc.{opc as OPc};
 
+use aes::Cipher;
 use aes_words::Block;
 
 // One block under K.
 fn encrypted(k: [u8; 16], block: Block) -> Block
     ensures { octets_of result ≡ E k (octets_of block) }
 {
-    let table = aes::round_table();
-    let schedule = aes_schedule::key_expansion(aes_words::from_octets(k));
-    aes::encrypt(&table, &schedule, block)
+    Cipher::new(aes_words::from_octets(k)).encrypt(block)
 }
 
 // OPc of K and OP.

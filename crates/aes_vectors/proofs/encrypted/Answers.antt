@@ -8,5 +8,5 @@ use Rattle.aes_vectors.proofs.encrypted.Goals as goal
 pub returns : goal.returns
 unfolding aes
 returns c =
-    let key = c.key_expansion-w.ensures ∙ ap key_expansion c.from_octets.ensures in
+    let key = c.new-cipher.ensures ∙ ap key_expansion c.from_octets.ensures in
     c.to_octets.ensures ∙ c.encrypt.ensures ∙ ap₂ cipher key c.from_octets-2.ensures

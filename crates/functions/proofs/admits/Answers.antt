@@ -2,10 +2,10 @@
 use Rattle.functions.specs.Sets.{sets}
 use Rattle.functions.proofs.admits.Goals as goal
 
-pub returns-then-not-is_known : goal.returns-then-not-is_known
+pub returns-then-is_known : goal.returns-then-is_known
 unfolding sets
-returns-then-not-is_known c = rw (← c.is_known.ensures, c.if-not-is_known.true)
+returns-then-is_known c = rw (← c.is_known.ensures, c.if-is_known.true) c.is_known-then-is_known.ensures
 
-pub returns : goal.returns
+pub returns-else-is_known : goal.returns-else-is_known
 unfolding sets
-returns c = rw (← c.is_known.ensures, c.if-not-is_known.false) c.is_known-2.ensures
+returns-else-is_known c = rw (← c.is_known.ensures, c.if-is_known.false)

@@ -1,6 +1,0 @@
--- `out1` is OUT1.
-use Rattle.milenage.proofs.Sums.{output1}
-use Rattle.milenage.proofs.out1.Goals as goal
-
-pub returns : goal.returns
-returns c = output1 _ _ _ _ c.xor.ensures c.left2-turned.ensures c.xor-2.ensures c.masked.ensures
