@@ -1,6 +1,6 @@
 // Reading the line of a call by its form.
-ghost use Rattle.std.specs.Prelude.{◌<◌, ◌≤◌};
-ghost use Rattle.call_lines.specs.Limits.{longest, most_fields, most_lent};
+ghost use Rattle.std.specs.Prelude.{◌≤◌};
+ghost use Rattle.call_lines.specs.Limits.{longest, most_lent};
 
 use functions::Keys;
 
@@ -19,108 +19,33 @@ const SIZES: u64 = LONGEST as u64 + 1;
 // The fields of a line.
 const MOST_FIELDS: usize = 80;
 
+// A field: where the space before it stands, and its number or how many octets it has.
+#[derive(Clone, Copy)]
+struct Field {
+    start: usize,
+    value: u64,
+}
+
+// A call: its fields, of which those behind the last are zero, and the store. The octets of a field stand there from the place of the space
+// before it.
+#[derive(Clone, Copy)]
+pub struct Call<'a> {
+    fields: [Field; MOST_FIELDS],
+    store: &'a [u8],
+}
+
 // ---- the line
 
-// A call. `word` counts its word among those that are known, from 1; it is 0 where the line is no call of theirs. For each field there is
-// where the space before it stands, and its number or how many octets it has. The octets stand in the store from the place of that space.
-// The line is read up to `at`.
-#[derive(Clone, Copy, Drop)]
-pub struct Call {
-    pub word: u64,
-    pub starts: [usize; MOST_FIELDS],
-    pub values: [u64; MOST_FIELDS],
-    pub at: usize,
-}
-
-// A number or a count of octets, or `ok` false and zero.
-#[derive(Drop)]
-struct Amount {
-    ok: bool,
-    value: u64,
-}
-
-// A field up to `end`; `ok` is false where it is not of its kind.
-#[derive(Drop)]
-struct Field {
-    ok: bool,
-    value: u64,
-    end: usize,
-}
-
-// A word that is known, and where its form stands.
-#[derive(Drop)]
-struct Entry {
-    word: u64,
-    start: usize,
-    end: usize,
-}
-
-// A call before its fields. Without a word it stays no call, whatever is added.
-fn without_fields(word: u64, at: usize) -> Call {
-    Call {
-        word,
-        starts: [0; MOST_FIELDS],
-        values: [0; MOST_FIELDS],
-        at,
-    }
-}
-
-// The bytes from `start` up to `end`; none, where there are no such.
-fn between<'a>(bytes: &'a [u8], start: usize, end: usize) -> &'a [u8] {
-    if end < start {
-        return &bytes[..0];
-    }
-    if bytes.len() < end {
-        return &bytes[..0];
-    }
-    &bytes[start..end]
-}
-
-// Whether the entry at `at` is that of a word.
-fn is_entry(words: &[u8], at: usize, word: &[u8]) -> bool {
-    let rest = between(words, at, words.len());
-    let size = word.len();
-    if rest.len() <= size {
-        return false;
-    }
-    if rest[size] != b':' {
-        return false;
-    }
-    fields::begins(rest, word)
-}
-
-// Finds a word among entries with a space between, each a word, a colon and a form.
-fn find_word(words: &[u8], word: &[u8]) -> Entry {
-    let mut number = 0;
-    let mut at = 0;
-    while at < words.len() {
-        let end = fields::field_end(words, at);
-        number += 1;
-        if is_entry(words, at, word) {
-            return Entry {
-                word: number,
-                start: at + word.len() + 1,
-                end,
-            };
-        }
-        at = end + 1;
-    }
-    Entry {
-        word: 0,
-        start: 0,
-        end: 0,
-    }
+// The word that a line begins with.
+pub fn word(line: &[u8]) -> &[u8] {
+    &line[..fields::field_end(line, 0)]
 }
 
 // A form has a letter for each field, a small one for a number and a capital one for octets: `d` one digit, 0 or 1, `s` a state, `b` what
 // has one octet, `l` the length of a lent buffer, `n` any number; `A` AMF, `K` a key, `V` the node's outstanding place, `P` all its
-// places, `O` any octets.
+// places, `O` any octets. Letters, and no enum: so a form is one word, also where it has seventy fields.
 // Whether the number, or how many octets there are, is right for the letter.
-fn fits(kind: u8, n: &Amount) -> bool {
-    if !n.ok {
-        return false;
-    }
-    let size = n.value;
+fn fits(kind: u8, size: u64) -> bool {
     match kind {
         b'd' => size <= 1,
         b's' => size <= 2,
@@ -134,196 +59,135 @@ fn fits(kind: u8, n: &Amount) -> bool {
     }
 }
 
-fn no_number() -> Amount {
-    Amount {
-        ok: false,
-        value: 0,
+// Reads octets in hex to the front of `out`, and says how many they are; `-` stands for none, an empty text for nothing.
+fn read_octets(text: &[u8], out: &mut [u8]) -> Option<u64> {
+    if text == b"-".as_slice() {
+        return Some(0);
     }
-}
-
-// Reads octets in hex to the front of `out`; `-` stands for none, an empty text for nothing. The value is how many there are.
-fn read_octets(text: &[u8], out: &mut [u8]) -> Amount {
     let size = text.len() / 2;
-    if size == 0 {
-        return Amount {
-            ok: fields::begins(text, b"-"),
-            value: 0,
-        };
+    if size == 0 || out.len() < size {
+        return None;
     }
-    if out.len() < size {
-        return no_number();
-    }
-    Amount {
-        ok: hex_digits::read(text, &mut out[0..size]),
-        value: size as u64,
+    if hex_digits::read(text, &mut out[..size]) {
+        Some(size as u64)
+    } else {
+        None
     }
 }
 
 // A number has up to 20 digits, a digit is alone.
 fn most_digits(kind: u8) -> usize {
-    if kind == b'd' {
-        return 1;
-    }
-    fields::MOST_DIGITS
+    if kind == b'd' { 1 } else { fields::MOST_DIGITS }
 }
 
-fn read_value(kind: u8, text: &[u8], out: &mut [u8]) -> Amount {
+fn read_value(kind: u8, text: &[u8], out: &mut [u8]) -> Option<u64> {
     if kind < b'a' {
         return read_octets(text, out);
     }
     if most_digits(kind) < text.len() {
-        return no_number();
+        return None;
     }
-    match fields::read_number(text) {
-        Some(value) => Amount { ok: true, value },
-        None => no_number(),
-    }
+    fields::read_number(text)
 }
 
-fn no_field() -> Field {
-    Field {
-        ok: false,
-        value: 0,
-        end: 0,
-    }
-}
-
-// Reads the field behind the space at `at`. The store is as long as the longest line that is a call.
-fn read_field(kind: u8, line: &[u8], at: usize, store: &mut [u8]) -> Field {
-    if line.len() <= at {
-        return no_field();
-    }
-    if store.len() < line.len() {
-        return no_field();
+// Reads the field behind the space at `at`: its value, and where it ends. The store is as long as the longest line that is a call.
+fn read_field(kind: u8, line: &[u8], at: usize, store: &mut [u8]) -> Option<(u64, usize)> {
+    if line.len() <= at || store.len() < line.len() {
+        return None;
     }
     let start = at + 1;
     let end = fields::field_end(line, start);
-    let n = read_value(kind, &line[start..end], &mut store[at..end]);
-    Field {
-        ok: fits(kind, &n),
-        value: n.value,
-        end,
+    let value = read_value(kind, &line[start..end], &mut store[at..end])?;
+    if fits(kind, value) {
+        Some((value, end))
+    } else {
+        None
     }
 }
 
-// A call with one field more, field `i`.
-fn with_field(c: Call, i: usize, f: Field) -> Call {
-    if MOST_FIELDS <= i {
-        return without_fields(0, 0);
+// The call of a line, one field for each letter of the form of its word; none where the fields are not so, or more stands behind them.
+pub fn read<'a>(form: &[u8], line: &[u8], store: &'a mut [u8]) -> Option<Call<'a>> {
+    let mut fields = [Field { start: 0, value: 0 }; MOST_FIELDS];
+    let mut at = fields::field_end(line, 0);
+    for (field, kind) in fields.iter_mut().zip(form) {
+        let (value, end) = read_field(*kind, line, at, store)?;
+        *field = Field { start: at, value };
+        at = end;
     }
-    if !f.ok {
-        return without_fields(0, 0);
+    if at == line.len() {
+        Some(Call { fields, store })
+    } else {
+        None
     }
-    let mut starts = c.starts;
-    let mut values = c.values;
-    starts[i] = c.at;
-    values[i] = f.value;
-    Call {
-        word: c.word,
-        starts,
-        values,
-        at: f.end,
-    }
-}
-
-// Reads the fields, one for each letter of the form.
-fn read_fields(call: Call, form: &[u8], line: &[u8], store: &mut [u8]) -> Call {
-    let mut c = call;
-    let mut i = 0;
-    while i < form.len() {
-        let next = with_field(c, i, read_field(form[i], line, c.at, store));
-        c = next;
-        i += 1;
-    }
-    c
-}
-
-// The call of a line. The words that are known are entries with a space between, each a word, a colon and its form.
-pub fn read(words: &[u8], line: &[u8], store: &mut [u8]) -> Call {
-    let end = fields::field_end(line, 0);
-    let entry = find_word(words, console::first_bytes(line, end));
-    let form = between(words, entry.start, entry.end);
-    let c = read_fields(without_fields(entry.word, end), form, line, store);
-    if c.at != line.len() {
-        return without_fields(0, 0);
-    }
-    c
 }
 
 // ---- the fields
 
-// The number of field `i`.
-pub fn number(c: Call, i: usize) -> u64
-    requires { i < most_fields }
-{
-    let values = c.values;
-    values[i]
-}
-
-// The number of field `i`, one of at most 255.
-pub fn octet(c: Call, i: usize) -> u8
-    requires { i < most_fields }
-{
-    (number(c, i) % 256) as u8
-}
-
-// The number of field `i`, the length of a buffer that is lent.
-pub fn lent_size(c: Call, i: usize) -> usize
-    requires { i < most_fields }
-    ensures { result ≤ most_lent }
-{
-    (number(c, i) % LENT_SIZES) as usize
-}
-
-// Whether field `i`, a digit, is 1.
-pub fn mark(c: Call, i: usize) -> bool
-    requires { i < most_fields }
-{
-    number(c, i) == 1
-}
-
-// How many octets field `i` has.
-pub fn size(c: Call, i: usize) -> usize
-    requires { i < most_fields }
-    ensures { result ≤ longest }
-{
-    (number(c, i) % SIZES) as usize
-}
-
-// The octets of field `i`.
-pub fn part<'a>(c: Call, i: usize, store: &'a [u8]) -> &'a [u8]
-    requires { i < most_fields }
-{
-    let starts = c.starts;
-    let rest = between(store, starts[i], store.len());
-    console::first_bytes(rest, number(c, i) as usize)
-}
-
-// Copies octets to the front of a buffer that has room for them.
-pub fn copy_front(octets: &[u8], buffer: &mut [u8]) {
-    if octets.len() <= buffer.len() {
-        octets::copy(octets, buffer);
+impl<'a> Call<'a> {
+    fn field(&self, i: usize) -> Field {
+        match self.fields.get(i) {
+            Some(field) => *field,
+            None => Field { start: 0, value: 0 },
+        }
     }
-}
 
-fn key(c: Call, i: usize, store: &[u8]) -> [u8; aka::KEY_SIZE]
-    requires { i < most_fields }
-{
-    let mut key = [0u8; aka::KEY_SIZE];
-    copy_front(part(c, i, store), &mut key);
-    key
-}
+    // The number of field `i`.
+    pub fn number(&self, i: usize) -> u64 {
+        self.field(i).value
+    }
 
-// The field EDITION, with which the line of a record begins.
-pub fn edition(c: Call) -> u8 {
-    octet(c, 0)
-}
+    // The number of field `i`, one of at most 255.
+    pub fn octet(&self, i: usize) -> u8 {
+        (self.number(i) % 256) as u8
+    }
 
-// The fields `SET K OPC` behind it.
-pub fn keys(c: Call, store: &[u8]) -> Keys {
-    Keys {
-        set: octet(c, 1),
-        k: key(c, 2, store),
-        opc: key(c, 3, store),
+    // The number of field `i`, the length of a buffer that is lent.
+    pub fn lent_size(&self, i: usize) -> usize
+        ensures { result ≤ most_lent }
+    {
+        (self.number(i) % LENT_SIZES) as usize
+    }
+
+    // Whether field `i`, a digit, is 1.
+    pub fn mark(&self, i: usize) -> bool {
+        self.number(i) == 1
+    }
+
+    // How many octets field `i` has.
+    pub fn size(&self, i: usize) -> usize
+        ensures { result ≤ longest }
+    {
+        (self.number(i) % SIZES) as usize
+    }
+
+    // The octets of field `i`.
+    pub fn part(&self, i: usize) -> &'a [u8] {
+        let field = self.field(i);
+        if self.store.len() < field.start {
+            return &self.store[..0];
+        }
+        console::first_bytes(&self.store[field.start..], field.value as usize)
+    }
+
+    // The same at the front of an array, and zeros behind them.
+    pub fn array<const N: usize>(&self, i: usize) -> [u8; N] {
+        let mut array = [0u8; N];
+        let part = console::first_bytes(self.part(i), N);
+        array[..part.len()].copy_from_slice(part);
+        array
+    }
+
+    // The field EDITION, with which the line of a record begins.
+    pub fn edition(&self) -> u8 {
+        self.octet(0)
+    }
+
+    // The fields `SET K OPC` behind it.
+    pub fn keys(&self) -> Keys {
+        Keys {
+            set: self.octet(1),
+            k: self.array(2),
+            opc: self.array(3),
+        }
     }
 }

@@ -3,149 +3,174 @@ ghost use Rattle.std.specs.Prelude.{◌≤◌};
 ghost use Rattle.call_lines.specs.Limits.{most_lent};
 
 use auc::{Auc, Outcome};
+use call_lines::call;
 use call_lines::call::{Call, LONGEST, MOST_LENT};
 use call_lines::text::Text;
-use call_lines::{call, text};
 
-// The answer to a line; no text where it is no call of the centre.
-pub fn answer(line: &[u8]) -> Text {
-    let mut store = [0u8; LONGEST];
-    let c = call::read(
-        b"auc-new:bbKKA auc-write:bbKKAlnb vector:On triplets:Ol auc-read:O order:OnOl resync:OnOOOl",
-        line,
-        &mut store,
-    );
-    answer_call(c, &store)
+#[derive(Clone, Copy)]
+enum Word {
+    New,
+    Write,
+    Read,
+    Order,
+    Resync,
+    Vector,
+    Triplets,
 }
 
-// The words by their places in the list above.
-fn answer_call(c: Call, store: &[u8]) -> Text {
-    let word = c.word;
-    match word {
-        0 => text::no_text(),
-        1 => write(new(c, store), auc_image::SIZE),
-        2 => write(record(c, store), call::lent_size(c, 5)),
-        3 => vector(c, store),
-        4 => triplets(c, store),
-        _ => with_image(c, store),
+impl Word {
+    fn of(word: &[u8]) -> Option<Word> {
+        match word {
+            b"auc-new" => Some(Word::New),
+            b"auc-write" => Some(Word::Write),
+            b"auc-read" => Some(Word::Read),
+            b"order" => Some(Word::Order),
+            b"resync" => Some(Word::Resync),
+            b"vector" => Some(Word::Vector),
+            b"triplets" => Some(Word::Triplets),
+            _ => None,
+        }
     }
+
+    fn form(self) -> &'static [u8] {
+        match self {
+            Word::New => b"bbKKA",
+            Word::Write => b"bbKKAlnb",
+            Word::Read => b"O",
+            Word::Order => b"OnOl",
+            Word::Resync => b"OnOOOl",
+            Word::Vector => b"On",
+            Word::Triplets => b"Ol",
+        }
+    }
+}
+
+// The answer to a line; none where it is no call of the centre.
+pub fn answer(line: &[u8]) -> Option<Text> {
+    let mut store = [0u8; LONGEST];
+    let word = Word::of(call::word(line))?;
+    let c = call::read(word.form(), line, &mut store)?;
+    Some(match answer_to(word, &c) {
+        Ok(text) => text,
+        Err(number) => Text::refused(number),
+    })
+}
+
+// The answer to a call, or the number of a refusal that has no more to say.
+fn answer_to(word: Word, c: &Call) -> Result<Text, u8> {
+    match word {
+        Word::New => write(new(c), auc_image::SIZE),
+        Word::Write => write(record(c), c.lent_size(5)),
+        Word::Read => Ok(read(record_in(c)?)),
+        Word::Order => Ok(order(record_in(c)?, c)),
+        Word::Resync => Ok(resync(record_in(c)?, c)),
+        Word::Vector => Ok(vector(c)),
+        Word::Triplets => triplets(c),
+    }
+}
+
+// The record of the image in the first field.
+fn record_in(c: &Call) -> Result<Auc, u8> {
+    let read = auc_image::read(c.part(0));
+    if read.refusal != 0 {
+        return Err(read.refusal);
+    }
+    Ok(read.auc)
 }
 
 // `auc-new EDITION SET K OPC AMF`.
-fn new(c: Call, store: &[u8]) -> Auc {
-    let mut amf = [0u8; aka::AMF_SIZE];
-    call::copy_front(call::part(c, 4, store), &mut amf);
-    auc::new(call::edition(c), call::keys(c, store), amf)
+fn new(c: &Call) -> Auc {
+    auc::new(c.edition(), c.keys(), c.array(4))
 }
 
 // `auc-write EDITION SET K OPC AMF LENGTH SEQHE NEXT`. LENGTH is that of the buffer lent for the image.
-fn record(c: Call, store: &[u8]) -> Auc {
-    let mut auc = new(c, store);
-    auc.seqhe = call::number(c, 6);
-    auc.next = call::octet(c, 7);
-    auc
+fn record(c: &Call) -> Auc {
+    Auc {
+        seqhe: c.number(6),
+        next: c.octet(7),
+        ..new(c)
+    }
 }
 
 // Lends the first `size` bytes for the image.
-fn write(auc: Auc, size: usize) -> Text
+fn write(auc: Auc, size: usize) -> Result<Text, u8>
     requires { size ≤ most_lent }
 {
     let mut buffer = [0u8; MOST_LENT];
-    let refusal = auc_image::write(auc, &mut buffer[0..size]);
-    text::written(b"image", refusal, buffer, size)
+    let image = &mut buffer[..size];
+    match auc_image::write(auc, image) {
+        0 => Ok(Text::with_octets(b"image", image)),
+        number => Err(number),
+    }
 }
 
 // `vector BATCH PLACE`.
-fn vector(c: Call, store: &[u8]) -> Text {
-    let batch = call::part(c, 0, store);
-    text::put_octets(
-        text::word(b"vector"),
-        auc::vector_at(batch, call::number(c, 1)),
-    )
+fn vector(c: &Call) -> Text {
+    Text::with_octets(b"vector", auc::vector_at(c.part(0), c.number(1)))
 }
 
 // `triplets BATCH LENGTH`. LENGTH is that of the buffer lent for the triplets.
-fn triplets(c: Call, store: &[u8]) -> Text {
+fn triplets(c: &Call) -> Result<Text, u8> {
     let mut buffer = [0u8; MOST_LENT];
-    let size = call::lent_size(c, 1);
-    let refusal = triplets::convert(call::part(c, 0, store), &mut buffer[0..size]);
-    text::written(b"triplets", refusal, buffer, size)
-}
-
-// The calls whose first field is an image.
-fn with_image(c: Call, store: &[u8]) -> Text {
-    let read = auc_image::read(call::part(c, 0, store));
-    if read.refusal != 0 {
-        return text::refused(read.refusal);
-    }
-    let auc = read.auc;
-    let word = c.word;
-    match word {
-        5 => put_record(auc),
-        6 => order(auc, c, store),
-        _ => resync(auc, c, store),
+    let triplets = &mut buffer[..c.lent_size(1)];
+    match triplets::convert(c.part(0), triplets) {
+        0 => Ok(Text::with_octets(b"triplets", triplets)),
+        number => Err(number),
     }
 }
 
 // `auc-read IMAGE`.
-fn put_record(auc: Auc) -> Text {
-    let keys = auc.keys;
-    let amf = auc.amf;
-    let t = text::put_octets(text::put_keys(b"auc", auc.edition, keys), &amf);
-    text::put_number(text::put_number(t, auc.seqhe), auc.next as u64)
+fn read(auc: Auc) -> Text {
+    let mut text = Text::of_keys(b"auc", auc.edition, auc.keys);
+    text.put_octets(&auc.amf);
+    text.put_number(auc.seqhe);
+    text.put_number(auc.next as u64);
+    text
 }
 
 // `order IMAGE COUNT RANDS LENGTH`. LENGTH is that of the buffer lent for the batch.
-fn order(auc: Auc, c: Call, store: &[u8]) -> Text {
+fn order(auc: Auc, c: &Call) -> Text {
     let mut batch = [0u8; MOST_LENT];
-    let size = call::lent_size(c, 3);
-    let rands = call::part(c, 2, store);
-    let answer = auc::order(auc, call::number(c, 1), rands, &mut batch[0..size]);
-    put_answer(answer, batch, size)
+    let batch = &mut batch[..c.lent_size(3)];
+    let answer = auc::order(auc, c.number(1), c.part(2), batch);
+    given(answer, batch)
 }
 
 // `resync IMAGE COUNT RAND AUTS RANDS LENGTH`.
-fn resync(auc: Auc, c: Call, store: &[u8]) -> Text {
+fn resync(auc: Auc, c: &Call) -> Text {
     let mut batch = [0u8; MOST_LENT];
-    let size = call::lent_size(c, 5);
-    let rand = call::part(c, 2, store);
-    let auts = call::part(c, 3, store);
-    let rands = call::part(c, 4, store);
-    let count = call::number(c, 1);
-    let answer = auc::resynchronise(auc, count, rand, auts, rands, &mut batch[0..size]);
-    put_answer(answer, batch, size)
+    let batch = &mut batch[..c.lent_size(5)];
+    let answer = auc::resynchronise(auc, c.number(1), c.part(2), c.part(3), c.part(4), batch);
+    given(answer, batch)
 }
 
 // The outcome, and behind it the image of the next record and the batch. A refusal gives no vectors.
-fn put_answer(answer: auc::Answer, batch: [u8; MOST_LENT], size: usize) -> Text {
-    let outcome = answer.outcome;
-    let next = answer.auc;
-    let t = put_outcome(outcome, answer.n);
+fn given(answer: auc::Answer, batch: &[u8]) -> Text {
+    let mut text = outcome(answer.outcome, answer.n);
     if answer.n == 0 {
-        return t;
+        return text;
     }
     let mut image = [0u8; auc_image::SIZE];
-    auc_image::write(next, &mut image);
-    text::put_octets(
-        text::put_octets(t, &image),
-        console::first_bytes(&batch, size),
-    )
+    auc_image::write(answer.auc, &mut image);
+    text.put_octets(&image);
+    text.put_octets(batch);
+    text
 }
 
-fn put_outcome(outcome: Outcome, n: u8) -> Text {
+fn outcome(outcome: Outcome, n: u8) -> Text {
     match outcome {
-        Outcome::Given => text::numbered(b"given", n as u64),
-        Outcome::Kept => text::numbered(b"kept", n as u64),
-        Outcome::Reset => text::numbered(b"reset", n as u64),
-        Outcome::Refused(number) => text::refused(number),
-        Outcome::Repeated(first, second) => put_repeated(first, second),
+        Outcome::Given => Text::numbered(b"given", n as u64),
+        Outcome::Kept => Text::numbered(b"kept", n as u64),
+        Outcome::Reset => Text::numbered(b"reset", n as u64),
+        Outcome::Refused(number) => Text::refused(number),
+        Outcome::Repeated(first, second) => repeated(first, second),
     }
 }
 
 // Refusal 4 with its pair.
-fn put_repeated(first: u8, second: u8) -> Text {
-    text::put_number(
-        text::put_number(text::refused(4), first as u64),
-        second as u64,
-    )
+fn repeated(first: u8, second: u8) -> Text {
+    let mut text = Text::refused(4);
+    text.put_number(first as u64);
+    text.put_number(second as u64);
+    text
 }

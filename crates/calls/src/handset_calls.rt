@@ -1,108 +1,103 @@
 // The calls of the handset.
 use crate::usim_calls;
+use call_lines::call;
 use call_lines::call::{Call, LONGEST};
 use call_lines::text::Text;
-use call_lines::{call, text};
 use handset::{Outcome, Told};
-use usim::Usim;
 
-// The answer to a line; no text where it is no call of the handset.
-pub fn answer(line: &[u8]) -> Text {
+#[derive(Clone, Copy)]
+enum Word {
+    Phone,
+    Clear,
+}
+
+impl Word {
+    fn of(word: &[u8]) -> Option<Word> {
+        match word {
+            b"phone" => Some(Word::Phone),
+            b"phone-clear" => Some(Word::Clear),
+            _ => None,
+        }
+    }
+
+    fn form(self) -> &'static [u8] {
+        match self {
+            Word::Phone => b"dOOOOO",
+            Word::Clear => b"dO",
+        }
+    }
+}
+
+// The answer to a line; none where it is no call of the handset.
+pub fn answer(line: &[u8]) -> Option<Text> {
     let mut store = [0u8; LONGEST];
-    let c = call::read(b"phone:dOOOOO phone-clear:dO", line, &mut store);
-    answer_call(c, &store)
+    let word = Word::of(call::word(line))?;
+    let c = call::read(word.form(), line, &mut store)?;
+    Some(match word {
+        Word::Phone => match phone(&c) {
+            Ok(text) => text,
+            Err(number) => Text::refused(number),
+        },
+        Word::Clear => clear(&c),
+    })
 }
 
-// The words by their places in the list above.
-fn answer_call(c: Call, store: &[u8]) -> Text {
-    let word = c.word;
-    match word {
-        0 => text::no_text(),
-        1 => phone(c, store),
-        _ => clear(c, store),
-    }
-}
-
-// `phone HELD STORED IMAGE RAND AUTN FRESH`. The image is read first.
-fn phone(c: Call, store: &[u8]) -> Text {
-    let read = usim_image::read(call::part(c, 2, store));
-    if read.refusal != 0 {
-        return text::refused(read.refusal);
-    }
-    let card = read.usim;
-    let mut stored = [0u8; LONGEST];
-    let mut fresh = [0u8; LONGEST];
-    call::copy_front(call::part(c, 1, store), &mut stored);
-    call::copy_front(call::part(c, 5, store), &mut fresh);
-    let size = call::size(c, 1);
-    let fresh_size = call::size(c, 5);
-    challenge(
-        c,
-        store,
-        card,
-        &mut stored[0..size],
-        &mut fresh[0..fresh_size],
-    )
-}
-
-// The first of the three calls.
-fn challenge(c: Call, store: &[u8], card: Usim, stored: &mut [u8], fresh: &mut [u8]) -> Text {
-    let held = call::mark(c, 0);
-    let rand = call::part(c, 3, store);
-    let told = handset::answer(card, held, stored, rand, call::part(c, 4, store), fresh);
-    show(told, held, stored, rand, fresh)
+// `phone HELD STORED IMAGE RAND AUTN FRESH`. The image is read first. It is the first of the three calls, and `show` and `keep` are the
+// others.
+fn phone(c: &Call) -> Result<Text, u8> {
+    let card = usim_calls::card_in(c, 2)?;
+    let held = c.mark(0);
+    let mut stored: [u8; LONGEST] = c.array(1);
+    let stored = &mut stored[..c.size(1)];
+    let mut fresh: [u8; LONGEST] = c.array(5);
+    let fresh = &mut fresh[..c.size(5)];
+    let rand = c.part(3);
+    let told = handset::answer(card, held, stored, rand, c.part(4), fresh);
+    let mut text = show(told, held, stored, rand, fresh);
+    keep(&mut text, told, held, stored, rand, fresh);
+    Ok(text)
 }
 
 // The second: the outcome, the part shown and AUTS are put.
-fn show(told: Told, held: bool, stored: &mut [u8], rand: &[u8], fresh: &[u8]) -> Text {
-    let outcome = told.outcome;
-    let auts = told.auts;
-    let t = text::put_octets(
-        put_outcome(outcome),
-        handset::shown(outcome, held, stored, rand, fresh),
-    );
-    keep(text::put_octets(t, &auts), told, held, stored, rand, fresh)
+fn show(told: Told, held: bool, stored: &[u8], rand: &[u8], fresh: &[u8]) -> Text {
+    let mut text = outcome(told.outcome);
+    text.put_octets(handset::shown(told.outcome, held, stored, rand, fresh));
+    text.put_octets(&told.auts);
+    text
 }
 
 // The third: behind them the store, the fresh octets and the card.
-fn keep(t: Text, told: Told, held: bool, stored: &mut [u8], rand: &[u8], fresh: &[u8]) -> Text {
-    let outcome = told.outcome;
-    let next = told.usim;
-    let written = handset::keep(outcome, held, stored, rand, fresh);
-    let t = put_store(t, written.held, stored);
-    usim_calls::put_image(text::put_octets(t, fresh), next)
+fn keep(text: &mut Text, told: Told, held: bool, stored: &mut [u8], rand: &[u8], fresh: &[u8]) {
+    let written = handset::keep(told.outcome, held, stored, rand, fresh);
+    put_store(text, written.held, stored);
+    text.put_octets(fresh);
+    usim_calls::put_image(text, told.usim);
 }
 
-fn put_outcome(outcome: Outcome) -> Text {
+fn outcome(outcome: Outcome) -> Text {
     match outcome {
-        Outcome::Repeated => text::word(b"repeat"),
-        Outcome::Accepted => text::word(b"fresh"),
-        Outcome::Sync => text::word(b"sync"),
-        Outcome::Mac => text::word(b"mac"),
-        Outcome::Refused(number) => text::refused(number),
+        Outcome::Repeated => Text::word(b"repeat"),
+        Outcome::Accepted => Text::word(b"fresh"),
+        Outcome::Sync => Text::word(b"sync"),
+        Outcome::Mac => Text::word(b"mac"),
+        Outcome::Refused(number) => Text::refused(number),
     }
 }
 
-fn put_store(t: Text, held: bool, stored: &[u8]) -> Text {
-    text::put_octets(text::put_number(t, held as u64), stored)
+fn put_store(text: &mut Text, held: bool, stored: &[u8]) {
+    text.put_number(held as u64);
+    text.put_octets(stored);
 }
 
 // `phone-clear HELD STORED`.
-fn clear(c: Call, store: &[u8]) -> Text {
-    let mut stored = [0u8; LONGEST];
-    call::copy_front(call::part(c, 1, store), &mut stored);
-    let size = call::size(c, 1);
-    put_cleared(call::mark(c, 0), &mut stored[0..size])
-}
-
-fn put_cleared(held: bool, stored: &mut [u8]) -> Text {
-    let written = handset::clear(held, stored);
-    put_store(put_done(written.refusal), written.held, stored)
-}
-
-fn put_done(refusal: u8) -> Text {
-    if refusal != 0 {
-        return text::refused(refusal);
-    }
-    text::word(b"done")
+fn clear(c: &Call) -> Text {
+    let mut stored: [u8; LONGEST] = c.array(1);
+    let stored = &mut stored[..c.size(1)];
+    let written = handset::clear(c.mark(0), stored);
+    let mut text = match written.refusal {
+        0 => Text::word(b"done"),
+        number => Text::refused(number),
+    };
+    put_store(&mut text, written.held, stored);
+    text
 }

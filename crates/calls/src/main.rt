@@ -21,19 +21,13 @@ use vlr_calls::Answered;
 
 // The answer to a line, and the node for the next one.
 fn answer(node: Vlr, line: &[u8]) -> Answered {
-    let text = usim_calls::answer(line);
-    if text.size != 0 {
-        return Answered { vlr: node, text };
+    let text = usim_calls::answer(line)
+        .or_else(|| auc_calls::answer(line))
+        .or_else(|| handset_calls::answer(line));
+    match text {
+        Some(text) => Answered { vlr: node, text },
+        None => vlr_calls::answer(node, line),
     }
-    let text = auc_calls::answer(line);
-    if text.size != 0 {
-        return Answered { vlr: node, text };
-    }
-    let text = handset_calls::answer(line);
-    if text.size != 0 {
-        return Answered { vlr: node, text };
-    }
-    vlr_calls::answer(node, line)
 }
 
 // The node, and how far the program is.
@@ -56,9 +50,8 @@ fn put_answer(node: Vlr, line: &[u8], out: &mut [u8], p: Progress) -> Turn
     let answered = answer(node, console::first_bytes(line, p.held));
     let vlr = answered.vlr;
     let text = answered.text;
-    let bytes = text.bytes;
     let mut whole = [0u8; text::LONGEST_ANSWER + 1];
-    let n = console::append(&mut whole, 0, console::first_bytes(&bytes, text.size));
+    let n = console::append(&mut whole, 0, text.bytes());
     let n = console::append(&mut whole, n, b"\n");
     let progress = console::put_answer(out, p, console::first_bytes(&whole, n));
     Turn {

@@ -1,8 +1,53 @@
 // The calls of the node.
+use call_lines::call;
 use call_lines::call::{Call, LONGEST};
 use call_lines::text::Text;
-use call_lines::{call, text};
 use vlr::{Kind, Outcome, Reply, State, Vlr};
+
+#[derive(Clone, Copy)]
+enum Word {
+    New,
+    Record,
+    Store,
+    Renew,
+    Answer,
+    Sync,
+    Ask,
+    Again,
+    Reject,
+    Timeout,
+    Abandon,
+}
+
+impl Word {
+    fn of(word: &[u8]) -> Option<Word> {
+        match word {
+            b"vlr-new" => Some(Word::New),
+            b"vlr-record" => Some(Word::Record),
+            b"store" => Some(Word::Store),
+            b"renew" => Some(Word::Renew),
+            b"answer" => Some(Word::Answer),
+            b"sync" => Some(Word::Sync),
+            b"ask" => Some(Word::Ask),
+            b"again" => Some(Word::Again),
+            b"reject" => Some(Word::Reject),
+            b"timeout" => Some(Word::Timeout),
+            b"abandon" => Some(Word::Abandon),
+            _ => None,
+        }
+    }
+
+    fn form(self) -> &'static [u8] {
+        match self {
+            Word::Record => b"sbVP",
+            Word::Store => b"dnO",
+            Word::Renew => b"dnO",
+            Word::Answer => b"O",
+            Word::Sync => b"O",
+            _ => b"",
+        }
+    }
+}
 
 // The node after a line, and the answer.
 #[derive(Drop)]
@@ -13,47 +58,36 @@ pub struct Answered {
 
 // The answer to a line: a bad line where it is no call of the node.
 pub fn answer(vlr: Vlr, line: &[u8]) -> Answered {
-    let mut store = [0u8; LONGEST];
-    let c = call::read(
-        b"vlr-new: vlr-record:sbVP store:dnO renew:dnO answer:O sync:O ask: again: reject: timeout: abandon:",
-        line,
-        &mut store,
-    );
-    answer_call(vlr, c, &store)
-}
-
-fn answer_call(vlr: Vlr, c: Call, store: &[u8]) -> Answered {
-    if c.word == 0 {
-        return Answered {
+    match reply(vlr, line) {
+        Some(reply) => Answered {
+            vlr: reply.vlr,
+            text: put_reply(&reply),
+        },
+        None => Answered {
             vlr,
-            text: text::word(b"bad line"),
-        };
-    }
-    put_reply(reply(vlr, c, store))
-}
-
-// The words by their places in the list above.
-fn reply(vlr: Vlr, c: Call, store: &[u8]) -> Reply {
-    let word = c.word;
-    match word {
-        1 => record_reply(vlr::new()),
-        2 => record_reply(record(c, store)),
-        3 | 4 | 5 | 6 => with_octets(vlr, c, store),
-        _ => bare(vlr, word),
+            text: Text::word(b"bad line"),
+        },
     }
 }
 
-// The calls with octets: `store KIND COUNT BATCH`, `renew KIND COUNT BATCH`, `answer RES` and `sync AUTS`.
-fn with_octets(vlr: Vlr, c: Call, store: &[u8]) -> Reply {
-    let word = c.word;
-    let kind = kind_of(call::mark(c, 0));
-    let batch = call::part(c, 2, store);
-    match word {
-        3 => vlr::store(vlr, kind, call::number(c, 1), batch),
-        4 => vlr::renew(vlr, kind, call::number(c, 1), batch),
-        5 => vlr::answer(vlr, call::part(c, 0, store)),
-        _ => vlr::sync(vlr, call::part(c, 0, store)),
-    }
+// What the node replies to a line; nothing where it is no call of the node.
+fn reply(vlr: Vlr, line: &[u8]) -> Option<Reply> {
+    let mut store = [0u8; LONGEST];
+    let word = Word::of(call::word(line))?;
+    let c = call::read(word.form(), line, &mut store)?;
+    Some(match word {
+        Word::New => record_reply(vlr::new()),
+        Word::Record => record_reply(record(&c)),
+        Word::Store => vlr::store(vlr, kind_of(c.mark(0)), c.number(1), c.part(2)),
+        Word::Renew => vlr::renew(vlr, kind_of(c.mark(0)), c.number(1), c.part(2)),
+        Word::Answer => vlr::answer(vlr, c.part(0)),
+        Word::Sync => vlr::sync(vlr, c.part(0)),
+        Word::Ask => vlr::ask(vlr),
+        Word::Again => vlr::again(vlr),
+        Word::Reject => vlr::reject(vlr),
+        Word::Timeout => vlr::timeout(vlr),
+        Word::Abandon => vlr::abandon(vlr),
+    })
 }
 
 fn kind_of(is_triplet: bool) -> Kind {
@@ -63,28 +97,13 @@ fn kind_of(is_triplet: bool) -> Kind {
     Kind::Vector
 }
 
-// The words without fields.
-fn bare(vlr: Vlr, word: u64) -> Reply {
-    match word {
-        7 => vlr::ask(vlr),
-        8 => vlr::again(vlr),
-        9 => vlr::reject(vlr),
-        10 => vlr::timeout(vlr),
-        _ => vlr::abandon(vlr),
-    }
-}
-
 // `vlr-record STATE HELD OUT PLACES`.
-fn record(c: Call, store: &[u8]) -> Vlr {
-    let mut out = [0u8; aka::PLACE_SIZE];
-    let mut places = [0u8; aka::QUEUE_SIZE];
-    call::copy_front(call::part(c, 2, store), &mut out);
-    call::copy_front(call::part(c, 3, store), &mut places);
+fn record(c: &Call) -> Vlr {
     Vlr {
-        state: state_of(call::number(c, 0)),
-        held: call::octet(c, 1),
-        queue: places,
-        out,
+        state: state_of(c.number(0)),
+        held: c.octet(1),
+        queue: c.array(3),
+        out: c.array(2),
     }
 }
 
@@ -111,46 +130,32 @@ fn record_reply(vlr: Vlr) -> Reply {
 }
 
 // The whole answer, and the record that is kept.
-fn put_reply(reply: Reply) -> Answered {
-    let outcome = reply.outcome;
-    let vlr = reply.vlr;
-    let t = put_keys(put_octets(put_outcome(outcome), reply), reply);
-    Answered {
-        vlr,
-        text: put_vlr(t, vlr),
-    }
+fn put_reply(reply: &Reply) -> Text {
+    let mut text = outcome(reply.outcome);
+    text.put_octets(&reply.rand);
+    text.put_octets(&reply.autn);
+    text.put_octets(&reply.auts);
+    text.put_octets(&reply.ck);
+    text.put_octets(&reply.ik);
+    text.put_octets(&reply.kc);
+    put_vlr(&mut text, &reply.vlr);
+    text
 }
 
-fn put_outcome(outcome: Outcome) -> Text {
+fn outcome(outcome: Outcome) -> Text {
     match outcome {
-        Outcome::Done => text::word(b"done"),
-        Outcome::Passed => text::word(b"passed"),
-        Outcome::Cause(number) => text::numbered(b"cause", number as u64),
-        Outcome::Refused(number) => text::refused(number),
+        Outcome::Done => Text::word(b"done"),
+        Outcome::Passed => Text::word(b"passed"),
+        Outcome::Cause(number) => Text::numbered(b"cause", number as u64),
+        Outcome::Refused(number) => Text::refused(number),
     }
 }
 
-fn put_octets(t: Text, reply: Reply) -> Text {
-    let rand = reply.rand;
-    let autn = reply.autn;
-    let auts = reply.auts;
-    text::put_octets(text::put_two(t, rand, autn), &auts)
-}
-
-fn put_keys(t: Text, reply: Reply) -> Text {
-    let ck = reply.ck;
-    let ik = reply.ik;
-    let kc = reply.kc;
-    text::put_octets(text::put_two(t, ck, ik), &kc)
-}
-
-fn put_vlr(t: Text, vlr: Vlr) -> Text {
-    let state = vlr.state;
-    let out = vlr.out;
-    let places = vlr.queue;
-    let t = text::put_number(t, number_of(state));
-    let t = text::put_octets(text::put_number(t, vlr.held as u64), &out);
-    put_places(t, &places)
+fn put_vlr(text: &mut Text, vlr: &Vlr) {
+    text.put_number(number_of(vlr.state));
+    text.put_number(vlr.held as u64);
+    text.put_octets(&vlr.out);
+    text.put_octets(without_zeros(&vlr.queue));
 }
 
 fn number_of(state: State) -> u64 {
@@ -161,19 +166,11 @@ fn number_of(state: State) -> u64 {
     }
 }
 
-// How many octets there are up to the last one that is not zero.
-fn size_of(places: &[u8]) -> usize {
-    let mut end = places.len();
-    while end > 0 {
-        if places[end - 1] != 0 {
-            return end;
-        }
-        end -= 1;
-    }
-    0
-}
-
 // The places without the zeros at their end.
-fn put_places(t: Text, places: &[u8]) -> Text {
-    text::put_octets(t, console::first_bytes(places, size_of(places)))
+fn without_zeros(places: &[u8]) -> &[u8] {
+    let end = places.iter().rposition(|octet| *octet != 0);
+    match end {
+        Some(last) => &places[..last + 1],
+        None => &places[..0],
+    }
 }
