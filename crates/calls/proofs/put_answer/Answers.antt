@@ -14,8 +14,8 @@ returns-then-not-p c piece = not_answered AnyAnswer _ _ _ _ (not-true _ c.if-not
 pub returns : goal.returns
 returns c piece =
     let args = c.args in
-    let text = c.first_bytes-3.result.now in
-    let size = simp length-take at (ap length c.first_bytes-3.ensures) in
+    let text = c.first_bytes-2.result.now in
+    let size = simp length-take at (ap length c.first_bytes-2.ensures) in
     -- an answer has at most 4,128 bytes with its newline
     let short : length text ≤ length args.out.now / 2 = omega (arith, size) in
     was_answered AnyAnswer (length args.out.now) args.p.ready (vlr_of args.node) (vlr_of c.answer-answered.result.vlr)
