@@ -57,29 +57,29 @@ impl Outputs<'_> {
     pub fn out2(&self) -> Block
         ensures { octets_of result ≡ OUT2 (CIPHER self.now.cipher.now.schedule) (octets_of self.now.opc) (octets_of self.now.temp) }
     {
-        self.out(0, 1)
+        self.output(0, 1)
     }
 
     pub fn out3(&self) -> Block
         ensures { octets_of result ≡ OUT3 (CIPHER self.now.cipher.now.schedule) (octets_of self.now.opc) (octets_of self.now.temp) }
     {
-        self.out(1, 2)
+        self.output(1, 2)
     }
 
     pub fn out4(&self) -> Block
         ensures { octets_of result ≡ OUT4 (CIPHER self.now.cipher.now.schedule) (octets_of self.now.opc) (octets_of self.now.temp) }
     {
-        self.out(2, 4)
+        self.output(2, 4)
     }
 
     pub fn out5(&self) -> Block
         ensures { octets_of result ≡ OUT5 (CIPHER self.now.cipher.now.schedule) (octets_of self.now.opc) (octets_of self.now.temp) }
     {
-        self.out(3, 8)
+        self.output(3, 8)
     }
 
     // OUT2 to OUT5, of TEMP: at the rotation by `words` words and the constant `c`.
-    fn out(&self, words: usize, c: u32) -> Block
+    fn output(&self, words: usize, c: u32) -> Block
         requires { (words ≤ 3) × (c < 256) }
         ensures { octets_of result
             ≡ OUT (CIPHER self.now.cipher.now.schedule) (octets_of self.now.opc) (4 * words) c (octets_of self.now.temp) }
