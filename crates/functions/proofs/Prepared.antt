@@ -15,7 +15,7 @@ use Rattle.functions.specs.declared.PreparedRand.{PreparedRand}
 use Rattle.functions.specs.declared.PreparedRand.TheVariants.{TestSet, Milenage}
 use Rattle.functions.specs.Sets.{Outputs, test_outputs, milenage_outputs, outputs, outputs_of, sets}
 use Rattle.functions.specs.Challenge.{schedule_of}
-use Rattle.functions.specs.PreparedRand.{outputs_from, Prepared, PreparedLaw}
+use Rattle.functions.specs.PreparedRand.{outputs_from, mac_at, Prepared, PreparedLaw}
 
 -- an output, by set
 module _ {p : PreparedRand} {A : Type 0} (f : Outputs → A) where
@@ -25,6 +25,17 @@ module _ {p : PreparedRand} {A : Type 0} (f : Outputs → A) where
   pub of_milenage : {m : milenage.Outputs} → p ≡ Milenage m
       → f (milenage_outputs (cipher m.cipher.now.schedule) (octets_of m.opc) (octets_of m.temp)) ≡ f (outputs_from p)
   of_milenage e = rw e refl
+
+-- the two halves of OUT1
+pub mac : (p : PreparedRand) (sqn amf : Octets) → mac_at p 0 sqn amf ≡ (outputs_from p).f1 sqn amf
+unfolding test_outputs milenage_outputs
+mac (TestSet x) sqn amf = refl
+mac (Milenage m) sqn amf = refl
+
+pub mac_s : (p : PreparedRand) (sqn amf : Octets) → mac_at p 8 sqn amf ≡ (outputs_from p).f1* sqn amf
+unfolding test_outputs milenage_outputs
+mac_s (TestSet x) sqn amf = refl
+mac_s (Milenage m) sqn amf = refl
 
 same : (keys : Keys) (rand : Octets) (p : PreparedRand) → Prepared keys rand p → outputs_from p ≡ outputs_of keys rand
 unfolding outputs outputs_of schedule_of aes

@@ -1,9 +1,10 @@
 -- What the code makes once of a RAND, so that each function costs one block at most. Assumes nothing: these are definitions.
-use Rattle.std.specs.Prelude.{◌≡◌}
-use Rattle.octets.specs.Octets.{Octets}
+use Rattle.std.specs.Prelude.{ℕ, ◌≡◌, ◌++◌, take}
+use Rattle.octets.specs.Octets.{Octets, part, xor}
 use Rattle.aes_words.specs.declared.Block.{Block}
 use Rattle.aes_words.specs.Block.{octets_of}
 use Rattle.aes.specs.Cipher.{cipher}
+use Rattle.milenage.specs.Milenage.{in1, out1}
 use Rattle.milenage.specs.declared.Outputs as milenage
 use Rattle.aka.specs.Functions.{Keys}
 use Rattle.functions.specs.declared.PreparedRand.{PreparedRand}
@@ -15,6 +16,12 @@ use Rattle.functions.specs.Sets.{Outputs, test_outputs, milenage_outputs, base_o
 abbrev pub outputs_from : PreparedRand → Outputs
 outputs_from (TestSet x) = test_outputs (octets_of x)
 outputs_from (Milenage m) = milenage_outputs (cipher m.cipher.now.schedule) (octets_of m.opc) (octets_of m.temp)
+
+-- MAC and MAC-S: of set 0 they are the same, of MILENAGE the part of OUT1 that begins at `at`
+abbrev pub mac_at : PreparedRand → (at : ℕ) → (sqn amf : Octets) → Octets
+mac_at (TestSet x) at sqn amf = xor (take 8 (octets_of x)) (sqn ++ amf)
+mac_at (Milenage m) at sqn amf =
+    part at 8 (out1 (cipher m.cipher.now.schedule) (octets_of m.opc) (octets_of m.temp) (in1 sqn amf))
 
 -- ---- one that belongs to the keys and the RAND
 

@@ -10,10 +10,10 @@
 
 mod lent;
 
-ghost use Rattle.std.specs.Prelude.{◌≡◌};
+ghost use Rattle.std.specs.Prelude.{◌≡◌, ◌≤◌};
 ghost use Rattle.functions.specs.Sets.{is_set, sets};
 ghost use Rattle.functions.specs.Challenge.{keys_of, IsSchedule};
-ghost use Rattle.functions.specs.PreparedRand.{outputs_from, Prepared};
+ghost use Rattle.functions.specs.PreparedRand.{outputs_from, mac_at, Prepared};
 
 use aes::Cipher;
 use aes_words::Block;
@@ -105,22 +105,30 @@ impl PreparedRand<'_> {
     pub fn f1(&self, sqn: [u8; aka::SQN_SIZE], amf: [u8; aka::AMF_SIZE]) -> [u8; aka::MAC_SIZE]
         ensures { result ≡ (outputs_from self.now).f1 sqn amf }
     {
-        match *self {
-            PreparedRand::TestSet(x) => test_set::mac(x, sqn, amf),
-            PreparedRand::Milenage(m) => {
-                octets::eight(aes_words::to_octets(m.out1(milenage::in1(sqn, amf))), 0)
-            }
-        }
+        self.mac_at(0, sqn, amf)
     }
 
     // MAC-S: f1* of SQN_MS, RAND and AMF.
     pub fn f1s(&self, sqn: [u8; aka::SQN_SIZE], amf: [u8; aka::AMF_SIZE]) -> [u8; aka::MAC_SIZE]
         ensures { result ≡ (outputs_from self.now).f1* sqn amf }
     {
+        self.mac_at(8, sqn, amf)
+    }
+
+    // MAC and MAC-S: of set 0 they are the same, of MILENAGE the part of OUT1 that begins at `at`.
+    fn mac_at(
+        &self,
+        at: usize,
+        sqn: [u8; aka::SQN_SIZE],
+        amf: [u8; aka::AMF_SIZE],
+    ) -> [u8; aka::MAC_SIZE]
+        requires { at ≤ 8 }
+        ensures { result ≡ mac_at self.now at sqn amf }
+    {
         match *self {
             PreparedRand::TestSet(x) => test_set::mac(x, sqn, amf),
             PreparedRand::Milenage(m) => {
-                octets::eight(aes_words::to_octets(m.out1(milenage::in1(sqn, amf))), 8)
+                octets::piece(aes_words::to_octets(m.out1(milenage::in1(sqn, amf))), at)
             }
         }
     }
@@ -133,21 +141,21 @@ impl PreparedRand<'_> {
             PreparedRand::TestSet(x) => {
                 let x = aes_words::to_octets(x);
                 ResAk {
-                    res: octets::eight(x, 0),
-                    ak: octets::six(x, 3),
+                    res: octets::piece(x, 0),
+                    ak: octets::piece(x, 3),
                 }
             }
             PreparedRand::Milenage(m) => {
                 let out2 = aes_words::to_octets(m.out2());
                 ResAk {
-                    res: octets::eight(out2, 8),
-                    ak: octets::six(out2, 0),
+                    res: octets::piece(out2, 8),
+                    ak: octets::piece(out2, 0),
                 }
             }
         }
     }
 
-    // CK: f3 of RAND.
+    // CK: f3 of RAND. It and IK have nothing in common but the choice by set.
     pub fn f3(&self) -> [u8; aka::CK_SIZE]
         ensures { result ≡ (outputs_from self.now).f3 }
     {
@@ -172,8 +180,8 @@ impl PreparedRand<'_> {
         ensures { result ≡ (outputs_from self.now).f5* }
     {
         match *self {
-            PreparedRand::TestSet(x) => octets::six(aes_words::to_octets(x), 3),
-            PreparedRand::Milenage(m) => octets::six(aes_words::to_octets(m.out5()), 0),
+            PreparedRand::TestSet(x) => octets::piece(aes_words::to_octets(x), 3),
+            PreparedRand::Milenage(m) => octets::piece(aes_words::to_octets(m.out5()), 0),
         }
     }
 }

@@ -10,8 +10,8 @@ unfolding test_outputs
 returns-in-TestSet c =
     let is = c.to_octets-x.ensures in
     let set = c.in-TestSet.is in (
-      c.eight.ensures ∙ ap (take 8) is ∙ of_test_set (λ (o : Outputs). o.f2) set,
-      c.six.ensures ∙ ap (part 3 6) is ∙ of_test_set (λ (o : Outputs). o.f5) set,
+      c.piece.ensures ∙ ap (take 8) is ∙ of_test_set (λ (o : Outputs). o.f2) set,
+      c.piece-in-TestSet.ensures ∙ ap (part 3 6) is ∙ of_test_set (λ (o : Outputs). o.f5) set,
     )
 
 pub returns-in-Milenage : goal.returns-in-Milenage
@@ -19,6 +19,6 @@ unfolding milenage_outputs
 returns-in-Milenage c =
     let is = c.to_octets-out2.ensures ∙ c.out2.ensures in
     let set = c.in-Milenage.is in (
-      c.eight-in-Milenage.ensures ∙ ap (part 8 8) is ∙ of_milenage (λ (o : Outputs). o.f2) set,
-      c.six-in-Milenage.ensures ∙ ap (take 6) is ∙ of_milenage (λ (o : Outputs). o.f5) set,
+      c.piece-in-Milenage.ensures ∙ ap (part 8 8) is ∙ of_milenage (λ (o : Outputs). o.f2) set,
+      c.piece-in-Milenage-2.ensures ∙ ap (take 6) is ∙ of_milenage (λ (o : Outputs). o.f5) set,
     )
