@@ -10,27 +10,18 @@ pub fn equal(x: &[u8], y: &[u8]) -> bool
     requires { length x.now ≡ length y.now }
     ensures { result ≡ equal_to x.now y.now }
 {
-    let mut i: usize = 0;
-    while i < x.len() {
-        if x[i] != y[i] {
-            return false;
-        }
-        i += 1;
-    }
-    true
+    x == y
 }
 
 // The same for two MACs, or a response and the one expected. All octets are looked at, whatever they are: the time tells nothing of where
-// they differ.
+// they differ. So this stays a function of its own: `==` may end at the first difference.
 pub fn equal_without_early_end(x: &[u8], y: &[u8]) -> bool
     requires { length x.now ≡ length y.now }
     ensures { result ≡ equal_to x.now y.now }
 {
-    let mut differences: u8 = 0;
-    let mut i: usize = 0;
-    while i < x.len() {
-        differences = differences | (x[i] ^ y[i]);
-        i += 1;
+    let mut differences = 0;
+    for (a, b) in x.iter().zip(y) {
+        differences |= a ^ b;
     }
     differences == 0
 }

@@ -1,22 +1,21 @@
-use Rattle.std.proofs.Common.{sym, ◌∙◌, arith}
-use mathlib.Core.Bool.{and-true}
-use lib.ListN.{drop_of_length-le}
-use Rattle.octets.specs.Octets.{equal}
-use Rattle.octets.proofs.Comparing.{compare_next}
+use Rattle.std.proofs.Common.{sym, ◌∙◌, ap, ap₂, ◌&&◌, arith, length}
+use lib.Dec.{eqb}
+use Rattle.std.proofs.lemmas.Iterator.{empty_from_Zip}
+use Rattle.octets.specs.Octets.{Octets, equal}
+use Rattle.octets.proofs.Comparing.{compare_next, compare_end}
 use Rattle.octets.proofs.equal_without_early_end.Goals as goal
 
-pub loop-i-preserved : goal.loop-i-preserved
-loop-i-preserved c =
-    let l = c.loop-i in
+pub loop-a-preserved : goal.loop-a-preserved
+loop-a-preserved c =
+    let l = c.loop-a in
+    let left = c.in-Some.ensures.steps in
     record {
-      within = omega arith;
-      decides = l.invariant.decides ∙ compare_next c.args.x.now c.args.y.now l.i l.differences (omega arith) (omega arith);
+      size = omega (arith, ap length left.0, ap length left.1);
+      decides = l.invariant.decides ∙ ap₂ (λ (x y : Octets). eqb l.differences 0 && equal x y) left.0 left.1
+          ∙ compare_next c.in-Some.a.now c.in-Some.b.now l.differences c.next.new.self.a.rest.now c.next.new.self.b.rest.now;
     }
 
 pub returns : goal.returns
-unfolding equal
 returns c =
-    let l = c.loop-i in
-    let x = c.args.x.now in
-    let y = c.args.y.now in
-    sym (l.invariant.decides ∙ rw (drop_of_length-le x {i = l.i} (omega arith), drop_of_length-le y {i = l.i} (omega arith)) (and-true _))
+    let l = c.loop-a in
+    sym (l.invariant.decides ∙ compare_end l.differences (empty_from_Zip l.a-iterator c.next.new.self _ c.in-None.is c.next.ensures.steps l.invariant.size))
