@@ -2,19 +2,23 @@
 // SEQ_HE and the next index.
 #![tactic(auto)]
 
-ghost use Rattle.std.specs.Prelude.{true, ◌++◌, ◌≡◌, length, take, drop};
+ghost use Rattle.std.specs.Prelude.{true, ◌+◌, ◌++◌, ◌≡◌, length, take, drop, refl, IfOk};
 ghost use Rattle.octets.specs.Octets.{decode, encode, number, part};
 ghost use Rattle.functions.specs.Sets.{sets};
 ghost use Rattle.aka.specs.Layout.{amf_size, sqn_size};
-ghost use Rattle.aka.specs.Auc.{valid_auc};
+ghost use Rattle.aka.specs.Auc as aka;
+ghost use Rattle.aka.specs.Refusals.{refusal_in};
 ghost use Rattle.aka.specs.Sequence.{width_of};
 ghost use Rattle.aka.specs.Editions.{editions};
 ghost use Rattle.auc_record.specs.Views.{auc_of};
-ghost use Rattle.images.specs.Images.{refused_read, written_of, write_answer, read_answer};
-ghost use Rattle.auc_image.specs.Image.{amf_at, bits, counters_at, format, image as image_of, image_size, read_image};
+ghost use Rattle.images.proofs.Heads.{has_room};
+ghost use Rattle.images.specs.Images.{IsSound, written_of, write_answer, read_answer};
+ghost use Rattle.auc_image.specs.Image.{amf_at, bits, counters_at, format, image_size};
 ghost use Rattle.auc_image.specs.Views.{read_of};
 
+use aka::Refusal;
 use auc_record::Auc;
+use images::ImageFormat;
 
 // Where AMF begins, and where the counters: SEQ_HE and the next index.
 const AMF_AT: usize = images::HEAD_SIZE;
@@ -24,16 +28,9 @@ const COUNTERS_AT: usize = AMF_AT + aka::AMF_SIZE;
 // The octets of an image.
 pub const SIZE: usize = COUNTERS_AT + aka::SQN_SIZE;
 
-// `refusal` is 0 where the record was read; otherwise the record is zero.
-#[derive(Drop)]
-pub struct ReadAnswer {
-    pub refusal: u8,
-    pub auc: Auc,
-}
-
 // SEQ_HE of a valid record above the next index, in six octets.
 fn counters_of(auc: Auc) -> [u8; aka::SQN_SIZE]
-    requires { valid_auc editions sets (auc_of auc) ≡ true }
+    requires { aka.valid_auc editions sets (auc_of auc) ≡ true }
     ensures { result ≡ encode sqn_size (number 2 (bits (width_of editions auc.edition) (auc_of auc))) }
 {
     tokens::sqn_octets(editions::sqn(auc.edition, auc.seqhe, auc.next))
@@ -53,34 +50,6 @@ fn put_counters(image: &mut [u8], counters: [u8; aka::SQN_SIZE])
     ensures { image.new ≡ take counters_at image.old ++ counters ++ drop image_size image.old }
 {
     octets::copy(&counters, &mut image[COUNTERS_AT..]);
-}
-
-// Fills an image with a valid record.
-fn fill(auc: Auc, image: &mut [u8])
-    requires valid { valid_auc editions sets (auc_of auc) ≡ true }
-    requires size { length image.old ≡ image_size }
-    ensures { image.new ≡ image_of editions (auc_of auc) }
-{
-    let keys = auc.keys;
-    let amf = auc.amf;
-    let counters = counters_of(auc);
-    images::put_head(image, auc.edition, keys);
-    put_amf(image, amf);
-    put_counters(image, counters);
-}
-
-// Writes the image of `auc`: 0, or the refusal's number, and then the buffer is as it was.
-pub fn write(auc: Auc, buffer: &mut [u8]) -> u8
-    ensures { written_of result buffer.new ≡ write_answer (format editions sets) (auc_of auc) buffer.old }
-{
-    if !auc_record::is_valid(auc) {
-        return 1;
-    }
-    if buffer.len() != SIZE {
-        return 3;
-    }
-    fill(auc, buffer);
-    0
 }
 
 // The AMF of an image.
@@ -106,52 +75,70 @@ fn counters_in(image: &[u8]) -> u64
     ])
 }
 
-// The record of an image.
-fn unpack(image: &[u8]) -> Auc
-    requires { length image.now ≡ image_size }
-    ensures { auc_of result ≡ read_image editions image.now }
-{
-    let edition = images::edition_in(image);
-    let m = editions::row(edition);
-    let counters = counters_in(image);
-    Auc {
-        edition,
-        keys: images::keys_in(image),
-        amf: amf_in(image),
-        seqhe: counters / m.indices,
-        next: (counters % m.indices) as u8,
+// The format of the centre's images.
+pub struct AucFormat;
+
+impl ImageFormat for AucFormat {
+    type Record = Auc;
+
+    ghost View = { aka.Auc };
+
+    ghost view = { auc_of };
+
+    ghost format = { format editions sets };
+
+    ghost admits_heads = { λ x. refl };
+
+    ghost holds_head = { λ edition. has_room (amf_size + sqn_size) };
+
+    fn edition(held: Auc) -> u8 {
+        held.edition
+    }
+
+    fn is_valid(held: Auc) -> bool {
+        auc_record::is_valid(held)
+    }
+
+    fn size(_edition: u8) -> usize {
+        SIZE
+    }
+
+    fn fill(held: Auc, image: &mut [u8]) {
+        let counters = counters_of(held);
+        images::put_head(image, held.edition, held.keys);
+        put_amf(image, held.amf);
+        put_counters(image, counters);
+    }
+
+    fn unpack(image: &[u8]) -> Auc {
+        let edition = images::edition_in(image);
+        let m = editions::row(edition);
+        let counters = counters_in(image);
+        Auc {
+            edition,
+            keys: images::keys_in(image),
+            amf: amf_in(image),
+            seqhe: counters / m.indices,
+            next: (counters % m.indices) as u8,
+        }
+    }
+
+    fn zero() -> Auc {
+        auc_record::new(0, images::no_keys(), [0; aka::AMF_SIZE])
     }
 }
 
-// The answer of a refused reading.
-fn refused_read(number: u8) -> ReadAnswer
-    ensures { read_of result ≡ refused_read (format editions sets) number }
+// Writes the image of `auc`. A refusal leaves the buffer as it was.
+pub fn write(auc: Auc, buffer: &mut [u8]) -> Result<(), Refusal>
+    ensures { written_of (refusal_in result) buffer.new ≡ write_answer (format editions sets) (auc_of auc) buffer.old }
 {
-    ReadAnswer {
-        refusal: number,
-        auc: auc_record::new(0, images::no_keys(), [0; aka::AMF_SIZE]),
-    }
+    images::write::<AucFormat>(auc, buffer)
 }
 
 // Reads an image of any length and contents.
-pub fn read(image: &[u8]) -> ReadAnswer
-    ensures { read_of result ≡ read_answer (format editions sets) image.now }
+pub fn read(image: &[u8]) -> Result<Auc, Refusal>
+    ensures answer { read_of result ≡ read_answer (format editions sets) image.now }
+    ensures sound { IfOk result (λ auc. IsSound (format editions sets) image.now (auc_of auc)) }
 {
-    if image.len() == 0 {
-        return refused_read(3);
-    }
-    let edition = images::edition_in(image);
-    if !editions::is_known(edition) {
-        return refused_read(1);
-    }
-    if image.len() != SIZE {
-        return refused_read(3);
-    }
-    if !functions::admits(edition, images::keys_in(image)) {
-        return refused_read(1);
-    }
-    ReadAnswer {
-        refusal: 0,
-        auc: unpack(image),
-    }
+    images::read::<AucFormat>(image)
 }

@@ -2,6 +2,7 @@
 ghost use Rattle.std.specs.Prelude.{◌≤◌};
 ghost use Rattle.call_lines.specs.Limits.{most_lent};
 
+use aka::Refusal;
 use auc::{Auc, Outcome};
 use call_lines::call;
 use call_lines::call::{Call, LONGEST, MOST_LENT};
@@ -52,12 +53,12 @@ pub fn answer(line: &[u8]) -> Option<Text> {
     let c = call::read(word.form(), line, &mut store)?;
     Some(match answer_to(word, &c) {
         Ok(text) => text,
-        Err(number) => Text::refused(number),
+        Err(refusal) => Text::refused(refusal.number()),
     })
 }
 
-// The answer to a call, or the number of a refusal that has no more to say.
-fn answer_to(word: Word, c: &Call) -> Result<Text, u8> {
+// The answer to a call, or a refusal that has no more to say.
+fn answer_to(word: Word, c: &Call) -> Result<Text, Refusal> {
     match word {
         Word::New => write(new(c), auc_image::SIZE),
         Word::Write => write(record(c), c.lent_size(5)),
@@ -70,12 +71,8 @@ fn answer_to(word: Word, c: &Call) -> Result<Text, u8> {
 }
 
 // The record of the image in the first field.
-fn record_in(c: &Call) -> Result<Auc, u8> {
-    let read = auc_image::read(c.part(0));
-    if read.refusal != 0 {
-        return Err(read.refusal);
-    }
-    Ok(read.auc)
+fn record_in(c: &Call) -> Result<Auc, Refusal> {
+    auc_image::read(c.part(0))
 }
 
 // `auc-new EDITION SET K OPC AMF`.
@@ -93,15 +90,13 @@ fn record(c: &Call) -> Auc {
 }
 
 // Lends the first `size` bytes for the image.
-fn write(auc: Auc, size: usize) -> Result<Text, u8>
+fn write(auc: Auc, size: usize) -> Result<Text, Refusal>
     requires { size ≤ most_lent }
 {
     let mut buffer = [0u8; MOST_LENT];
     let image = &mut buffer[..size];
-    match auc_image::write(auc, image) {
-        0 => Ok(Text::with_octets(b"image", image)),
-        number => Err(number),
-    }
+    auc_image::write(auc, image)?;
+    Ok(Text::with_octets(b"image", image))
 }
 
 // `vector BATCH PLACE`.
@@ -110,13 +105,11 @@ fn vector(c: &Call) -> Text {
 }
 
 // `triplets BATCH LENGTH`. LENGTH is that of the buffer lent for the triplets.
-fn triplets(c: &Call) -> Result<Text, u8> {
+fn triplets(c: &Call) -> Result<Text, Refusal> {
     let mut buffer = [0u8; MOST_LENT];
     let triplets = &mut buffer[..c.lent_size(1)];
-    match triplets::convert(c.part(0), triplets) {
-        0 => Ok(Text::with_octets(b"triplets", triplets)),
-        number => Err(number),
-    }
+    triplets::convert(c.part(0), triplets)?;
+    Ok(Text::with_octets(b"triplets", triplets))
 }
 
 // `auc-read IMAGE`.
@@ -151,7 +144,7 @@ fn given(answer: auc::Answer, batch: &[u8]) -> Text {
         return text;
     }
     let mut image = [0u8; auc_image::SIZE];
-    auc_image::write(answer.auc, &mut image);
+    let _ = auc_image::write(answer.auc, &mut image);
     text.put_octets(&image);
     text.put_octets(batch);
     text

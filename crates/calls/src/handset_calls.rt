@@ -1,5 +1,6 @@
 // The calls of the handset.
 use crate::usim_calls;
+use aka::Refusal;
 use call_lines::call;
 use call_lines::call::{Call, LONGEST};
 use call_lines::text::Text;
@@ -36,7 +37,7 @@ pub fn answer(line: &[u8]) -> Option<Text> {
     Some(match word {
         Word::Phone => match phone(&c) {
             Ok(text) => text,
-            Err(number) => Text::refused(number),
+            Err(refusal) => Text::refused(refusal.number()),
         },
         Word::Clear => clear(&c),
     })
@@ -44,7 +45,7 @@ pub fn answer(line: &[u8]) -> Option<Text> {
 
 // `phone HELD STORED IMAGE RAND AUTN FRESH`. The image is read first. It is the first of the three calls, and `show` and `keep` are the
 // others.
-fn phone(c: &Call) -> Result<Text, u8> {
+fn phone(c: &Call) -> Result<Text, Refusal> {
     let card = usim_calls::card_in(c, 2)?;
     let held = c.mark(0);
     let mut stored: [u8; LONGEST] = c.array(1);

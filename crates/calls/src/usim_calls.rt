@@ -2,6 +2,7 @@
 ghost use Rattle.std.specs.Prelude.{◌≤◌};
 ghost use Rattle.call_lines.specs.Limits.{most_lent};
 
+use aka::Refusal;
 use call_lines::call;
 use call_lines::call::{Call, LONGEST, MOST_LENT};
 use call_lines::text::Text;
@@ -43,12 +44,12 @@ pub fn answer(line: &[u8]) -> Option<Text> {
     let c = call::read(word.form(), line, &mut store)?;
     Some(match answer_to(word, &c) {
         Ok(text) => text,
-        Err(number) => Text::refused(number),
+        Err(refusal) => Text::refused(refusal.number()),
     })
 }
 
-// The answer to a call, or the number of a refusal.
-fn answer_to(word: Word, c: &Call) -> Result<Text, u8> {
+// The answer to a call, or a refusal.
+fn answer_to(word: Word, c: &Call) -> Result<Text, Refusal> {
     match word {
         Word::New => new(c),
         Word::Write => write(record(c), c.lent_size(4)),
@@ -58,16 +59,12 @@ fn answer_to(word: Word, c: &Call) -> Result<Text, u8> {
 }
 
 // The record of the image in field `i`.
-pub fn card_in(c: &Call, i: usize) -> Result<Usim, u8> {
-    let read = usim_image::read(c.part(i));
-    if read.refusal != 0 {
-        return Err(read.refusal);
-    }
-    Ok(read.usim)
+pub fn card_in(c: &Call, i: usize) -> Result<Usim, Refusal> {
+    usim_image::read(c.part(i))
 }
 
 // `card-new EDITION SET K OPC`. The buffer lent has the size of the edition's image.
-fn new(c: &Call) -> Result<Text, u8> {
+fn new(c: &Call) -> Result<Text, Refusal> {
     let edition = c.edition();
     write(usim::new(edition, c.keys()), usim_image::size(edition))
 }
@@ -86,15 +83,13 @@ fn record(c: &Call) -> Usim {
 }
 
 // Lends the first `size` bytes for the image.
-fn write(card: Usim, size: usize) -> Result<Text, u8>
+fn write(card: Usim, size: usize) -> Result<Text, Refusal>
     requires { size ≤ most_lent }
 {
     let mut buffer = [0u8; MOST_LENT];
     let image = &mut buffer[..size];
-    match usim_image::write(card, image) {
-        0 => Ok(Text::with_octets(b"image", image)),
-        number => Err(number),
-    }
+    usim_image::write(card, image)?;
+    Ok(Text::with_octets(b"image", image))
 }
 
 // `card-read IMAGE`.
@@ -130,6 +125,6 @@ fn accepted(sqn: u64, a: usim::Answer) -> Text {
 pub fn put_image(text: &mut Text, card: Usim) {
     let mut image = [0u8; usim_image::MOST];
     let size = usim_image::size(card.edition);
-    usim_image::write(card, &mut image[..size]);
+    let _ = usim_image::write(card, &mut image[..size]);
     text.put_octets(&image[..size]);
 }

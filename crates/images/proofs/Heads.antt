@@ -37,6 +37,10 @@ pub length_head : (edition : ℕ) (keys : Keys) → Shaped keys → length (head
 unfolding head
 length_head edition keys shaped = simp length-append (omega (arith, shaped.k, shaped.opc))
 
+-- an image has room for its head
+pub has_room : (behind : ℕ) → head_size ≤ head_size + behind
+has_room behind = omega arith
+
 -- the first octet
 abbrev first : (edition : ℕ) → Keys → ℕ
 first edition keys = nibble * edition + keys.set

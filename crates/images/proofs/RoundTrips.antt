@@ -7,10 +7,13 @@ use native.Mathlib.Omega.{arith}
 use borrow.Author.Tests.{eqb-true, eqb-false}
 use lib.Dec.{eqb}
 use lib.ListN.{length}
+use Rattle.std.specs.Prelude.{Result, Ok, Err, IfOk}
+use Rattle.aka.specs.declared.Refusal.{Refusal}
 use Rattle.octets.specs.Octets.{Octets, Below}
 use Rattle.octets.proofs.Refusals.{passed}
 use Rattle.aka.specs.Editions.{is_edition}
 use Rattle.images.specs.Head.{edition_in}
+use Rattle.images.specs.Images.{IsSound, read_of}
 use Rattle.images.specs.Images.{Format, Written, Read, refused_read, write_answer, read_answer, RoundTrips}
 use Rattle.images.proofs.Answers.{write_valid, read_known}
 
@@ -89,3 +92,10 @@ module _ {R : Type 0} (format : Format R) (Shaped : R → Type 0) where
 
     pub round_trips : RoundTrips format Shaped
     round_trips = record { reading_written = read_written; writing_read = written_read; sound = is_sound }
+
+-- what the code read is sound
+pub sound_read : {A R : Type 0} (format : Format R) (Shaped : R → Type 0) (trips : RoundTrips format Shaped) (view : A → R)
+    (x : Octets) (r : Result A Refusal) → read_of format view r ≡ read_answer format x → IfOk r (λ held. IsSound format x (view held))
+sound_read format Shaped trips view x (Ok held) e =
+    rw (← e) at (trips.sound x (ap (λ (a : Read _). a.refusal) (sym e)))
+sound_read format Shaped trips view x (Err refusal) e = tt

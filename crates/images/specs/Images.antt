@@ -1,8 +1,10 @@
 -- A packed image of a record: what writing and reading it answer, with document 01's refusal number, 0 for none. USIM and AuC have one
 -- each, of every edition, and this is said once for all. Document 02, #104. Assumes nothing: these are definitions.
-use Rattle.std.specs.Prelude.{ℕ, Bool, true, not, cond, ◌≡◌, eqb, length}
+use Rattle.std.specs.Prelude.{ℕ, Bool, true, not, cond, ◌≡◌, eqb, length, Result, Ok, Err}
 use Rattle.octets.specs.Octets.{Octets, Below}
 use Rattle.aka.specs.Editions.{is_edition}
+use Rattle.aka.specs.Refusals.{number_of}
+use Rattle.aka.specs.declared.Refusal.{Refusal}
 use Rattle.images.specs.Head.{edition_in}
 
 -- how records of the type R are packed
@@ -46,16 +48,23 @@ module _ {R : Type 0} (format : Format R) where
       (cond (not (format.admitted x)) (refused_read 1)
       (record { refusal = 0; contents = format.record_in x }))))
 
+  -- an image that was read has the length of its record's edition, and the record is valid
+  abbrev pub IsSound : (x : Octets) (contents : R) → Type 0
+  IsSound x contents = (length x ≡ format.size (format.edition contents)) × (format.valid contents ≡ true)
+
   -- 'Reading what was written gives the record, and writing what was read gives the bytes.' Of records whose parts have their lengths.
   pub record RoundTrips (Shaped : R → Type 0) : Type 0 where
     pub reading_written : (r : R) (buffer : Octets) → Shaped r → format.valid r ≡ true → length buffer ≡ format.size (format.edition r)
         → read_answer (write_answer r buffer).image ≡ record { refusal = 0; contents = r }
     pub writing_read : (x buffer : Octets) → Below 256 x → (read_answer x).refusal ≡ 0 → length buffer ≡ length x
         → write_answer (read_answer x).contents buffer ≡ record { refusal = 0; image = x }
-    -- an image that is read has the length of its record's edition, and the record is valid
-    pub sound : (x : Octets) → (read_answer x).refusal ≡ 0
-        → (length x ≡ format.size (format.edition (read_answer x).contents)) × (format.valid (read_answer x).contents ≡ true)
+    pub sound : (x : Octets) → (read_answer x).refusal ≡ 0 → IsSound x (read_answer x).contents
 
 -- as the code answers
 abbrev pub written_of : (refusal : ℕ) (buffer : Octets) → Written
 written_of refusal buffer = record { refusal = refusal; image = buffer }
+
+-- an `Err` stands for its refusal's number and the record of zeros
+abbrev pub read_of : {A R : Type 0} → Format R → (view : A → R) → Result A Refusal → Read R
+read_of format view (Ok contents) = record { refusal = 0; contents = view contents }
+read_of format view (Err refusal) = refused_read format (number_of refusal)

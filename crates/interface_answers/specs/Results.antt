@@ -1,6 +1,8 @@
 -- What a call of the C interface returns: one number. Its low 8 bits are 0 for done, document 01's refusal number, or the cause of a
 -- failure; above them stands the value that goes with it, 0 where none is named. Assumes nothing: these are definitions.
-use Rattle.std.specs.Prelude.{ℕ, ◌+◌, ◌*◌}
+use Rattle.std.specs.Prelude.{ℕ, ◌+◌, ◌*◌, Result, Ok, Err}
+use Rattle.aka.specs.Refusals.{number_of}
+use Rattle.aka.specs.declared.Refusal.{Refusal}
 use Rattle.aka.specs.Usim as card
 use Rattle.aka.specs.Auc as centre
 
@@ -29,3 +31,8 @@ outcome_result centre.kept = both 0 0
 outcome_result centre.reset = both 0 1
 outcome_result (centre.refused number) = number
 outcome_result (centre.repeated i j) = both 4 (both i j)
+
+-- the number that is answered, or the refusal's
+abbrev pub returned_of : Result ℕ Refusal → ℕ
+returned_of (Ok number) = number
+returned_of (Err refusal) = number_of refusal

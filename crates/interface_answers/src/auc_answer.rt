@@ -9,17 +9,9 @@ ghost use Rattle.interface_answers.specs.Results.{outcome_result};
 ghost use Rattle.interface_answers.specs.Answers.{auc_image_after};
 
 use crate::results;
-use auc::{Auc, Outcome};
-
-// The next record goes into the image, and the number is handed back.
-#[tactic(auto, unfolding(auc_image::specs::Image::write_answer))]
-fn write_next(auc: Auc, image: &mut [u8], res: u64) -> u64
-    requires { (valid_auc editions sets (auc_of auc) ≡ true) × (length image.old ≡ auc_image_size) }
-    ensures { (result ≡ res) × (image.new ≡ auc_image editions (auc_of auc)) }
-{
-    auc_image::write(auc, image);
-    res
-}
+use auc::Outcome;
+use auc_image::AucFormat;
+use images::ImageFormat;
 
 // The image changes where a batch is given.
 pub fn hand_on(a: auc::Answer, image: &mut [u8]) -> u64
@@ -27,12 +19,15 @@ pub fn hand_on(a: auc::Answer, image: &mut [u8]) -> u64
     ensures { (result ≡ outcome_result (outcome_of a.outcome))
         × (image.new ≡ auc_image_after (outcome_of a.outcome) image.old (auc_image editions (auc_of a.auc))) }
 {
-    let outcome = a.outcome;
-    let auc = a.auc;
-    match outcome {
-        Outcome::Given => write_next(auc, image, 0),
-        Outcome::Kept => write_next(auc, image, 0),
-        Outcome::Reset => write_next(auc, image, results::both(0, 1)),
+    match a.outcome {
+        Outcome::Given | Outcome::Kept => {
+            AucFormat::fill(a.auc, image);
+            0
+        }
+        Outcome::Reset => {
+            AucFormat::fill(a.auc, image);
+            results::both(0, 1)
+        }
         Outcome::Refused(number) => number as u64,
         Outcome::Repeated(i, j) => results::both(4, results::both(i as u64, j as u64)),
     }

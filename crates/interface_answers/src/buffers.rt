@@ -1,5 +1,5 @@
-// Keys from lent octets, and a lent buffer filled.
-ghost use Rattle.std.specs.Prelude.{true, ◌≡◌, length};
+// Keys from lent octets.
+ghost use Rattle.std.specs.Prelude.{true, ◌≡◌};
 ghost use Rattle.functions.specs.Challenge.{keys_of};
 ghost use Rattle.interface_answers.specs.Answers.{are_keys};
 
@@ -24,12 +24,4 @@ pub fn keys_from(set: u8, k: &[u8], opc: &[u8]) -> Keys
         k: octets::sixteen(k),
         opc: octets::sixteen(opc),
     }
-}
-
-// Fills a buffer with octets of its length.
-pub fn fill(buffer: &mut [u8], octets: &[u8])
-    requires { length octets.now ≡ length buffer.old }
-    ensures { buffer.new ≡ octets.now }
-{
-    octets::copy(octets, buffer);
 }

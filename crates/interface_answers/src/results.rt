@@ -1,6 +1,8 @@
 // The number that a call returns.
 ghost use Rattle.std.specs.Prelude.{◌≡◌, ◌<◌, ◌^◌};
-ghost use Rattle.interface_answers.specs.Results.{both as both_of};
+ghost use Rattle.interface_answers.specs.Results.{both as both_of, returned_of};
+
+use aka::Refusal;
 
 // The causes of TS 24.008.
 pub const MAC_FAILURE: u64 = 20;
@@ -13,4 +15,11 @@ pub fn both(low: u64, high: u64) -> u64
     ensures { result ≡ both_of low high }
 {
     low + 256 * high
+}
+
+// What a call returns: the number that it answers, or its refusal's.
+pub fn returned(answer: Result<u64, Refusal>) -> u64
+    ensures { result ≡ returned_of answer }
+{
+    answer.unwrap_or_else(|refusal| refusal.number() as u64)
 }

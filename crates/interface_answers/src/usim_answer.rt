@@ -9,8 +9,10 @@ ghost use Rattle.usim_image.specs.Image.{image as usim_image, image_size as usim
 ghost use Rattle.interface_answers.specs.Results.{verdict_result};
 ghost use Rattle.interface_answers.specs.Answers.{answer_sized, usim_image_after};
 
-use crate::{buffers, results};
-use usim::{Usim, Verdict};
+use crate::results;
+use images::ImageFormat;
+use usim::Verdict;
+use usim_image::UsimFormat;
 
 // Whether the buffers for RES, CK, IK and AUTS have their sizes.
 pub fn are_sized(res: &[u8], ck: &[u8], ik: &[u8], auts: &[u8]) -> bool
@@ -27,20 +29,10 @@ pub fn fill_all(a: usim::Answer, res: &mut [u8], ck: &mut [u8], ik: &mut [u8], a
     requires { answer_sized res.old ck.old ik.old auts.old ≡ true }
     ensures { (res.new ≡ a.res) × (ck.new ≡ a.ck) × (ik.new ≡ a.ik) × (auts.new ≡ a.auts) }
 {
-    buffers::fill(res, &a.res);
-    buffers::fill(ck, &a.ck);
-    buffers::fill(ik, &a.ik);
-    buffers::fill(auts, &a.auts);
-}
-
-// The next record goes into the image, and the number is handed back.
-#[tactic(auto, unfolding(usim_image::specs::Image::write_answer))]
-fn write_next(usim: Usim, image: &mut [u8], res: u64) -> u64
-    requires { (valid_usim editions sets (usim_of usim) ≡ true) × (length image.old ≡ usim_image_size (width_of editions usim.edition)) }
-    ensures { (result ≡ res) × (image.new ≡ usim_image editions (usim_of usim)) }
-{
-    usim_image::write(usim, image);
-    res
+    res.copy_from_slice(&a.res);
+    ck.copy_from_slice(&a.ck);
+    ik.copy_from_slice(&a.ik);
+    auts.copy_from_slice(&a.auts);
 }
 
 // The image changes with an acceptance.
@@ -50,10 +42,11 @@ pub fn hand_on(a: usim::Answer, image: &mut [u8]) -> u64
     ensures { (result ≡ verdict_result (verdict_of a.verdict) (sqn_given a.verdict))
         × (image.new ≡ usim_image_after (verdict_of a.verdict) image.old (usim_image editions (usim_of a.usim))) }
 {
-    let verdict = a.verdict;
-    let usim = a.usim;
-    match verdict {
-        Verdict::Accepted(sqn) => write_next(usim, image, results::both(0, sqn)),
+    match a.verdict {
+        Verdict::Accepted(sqn) => {
+            UsimFormat::fill(a.usim, image);
+            results::both(0, sqn)
+        }
         Verdict::Sync => results::SYNCH_FAILURE,
         Verdict::Mac => results::MAC_FAILURE,
         Verdict::Refused(number) => number as u64,

@@ -5,7 +5,10 @@ ghost use Rattle.std.specs.Prelude.{◌*◌, ◌≤◌, ◌≡◌, length};
 ghost use Rattle.aka.specs.Layout.{most_vectors, read_vector, triplet_size, vector_size, write_triplet};
 ghost use Rattle.octets.specs.Octets.{xor};
 ghost use Rattle.aka.specs.Triplets.{convert as converted, half, kc_of, sizes_fit, sres_of, triplet_of, triplets_of};
+ghost use Rattle.aka.specs.Refusals.{refusal_in};
 ghost use Rattle.triplets.specs.Views.{converted_of};
+
+use aka::Refusal;
 
 // c2: SRES is XRES's two halves by xor. The quarters with which XRES is padded are zeros, and change nothing.
 fn sres(vector: &[u8]) -> [u8; aka::SRES_SIZE]
@@ -72,19 +75,16 @@ fn fill(batch: &[u8], n: usize, triplets: &mut [u8])
 fn sizes_fit(batch: usize, buffer: usize) -> bool
     ensures { result ≡ sizes_fit batch buffer }
 {
-    if !batches::is_batch(batch) {
-        return false;
-    }
-    buffer == aka::TRIPLET_SIZE * (batch / aka::VECTOR_SIZE)
+    batches::is_batch(batch) && buffer == aka::TRIPLET_SIZE * (batch / aka::VECTOR_SIZE)
 }
 
-// The triplets of a batch of one to five vectors, into a buffer of their size. The answer is the number of a refusal, 0 for none.
-pub fn convert(batch: &[u8], triplets: &mut [u8]) -> u8
-    ensures { converted_of result triplets.new ≡ converted batch.now triplets.old }
+// The triplets of a batch of one to five vectors, into a buffer of their size.
+pub fn convert(batch: &[u8], triplets: &mut [u8]) -> Result<(), Refusal>
+    ensures { converted_of (refusal_in result) triplets.new ≡ converted batch.now triplets.old }
 {
     if !sizes_fit(batch.len(), triplets.len()) {
-        return 3;
+        return Err(Refusal::Length);
     }
     fill(batch, batch.len() / aka::VECTOR_SIZE, triplets);
-    0
+    Ok(())
 }

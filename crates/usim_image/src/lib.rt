@@ -2,19 +2,22 @@
 // index.
 #![tactic(auto)]
 
-ghost use Rattle.std.specs.Prelude.{◌+◌, ◌-◌, ◌^◌, ◌≤◌, true, ◌++◌, ◌≡◌, length, take, drop};
+ghost use Rattle.std.specs.Prelude.{◌+◌, ◌-◌, ◌^◌, ◌≤◌, ◌++◌, ◌≡◌, length, take, drop, refl, IfOk};
 ghost use Rattle.octets.specs.Octets.{Below, zeros, decode, digits, encode, number};
 ghost use Rattle.functions.specs.Sets.{sets};
 ghost use Rattle.aka.specs.Sequence.{width_of, indices, seq_bits};
 ghost use Rattle.aka.specs.Editions.{editions, card_places};
-ghost use Rattle.aka.specs.Usim.{valid_usim};
+ghost use Rattle.aka.specs.Usim as aka;
+ghost use Rattle.aka.specs.Refusals.{refusal_in};
 ghost use Rattle.editions.specs.Views.{most_octets};
 ghost use Rattle.usim_record.specs.Views.{usim_of};
-ghost use Rattle.images.specs.Head.{edition_in};
-ghost use Rattle.images.specs.Images.{refused_read, written_of, write_answer, read_answer};
-ghost use Rattle.usim_image.specs.Image.{format, image as image_of, image_size, places_at, places_size, read_image};
+ghost use Rattle.images.proofs.Heads.{has_room};
+ghost use Rattle.images.specs.Images.{IsSound, written_of, write_answer, read_answer};
+ghost use Rattle.usim_image.specs.Image.{format, image_size, places_at, places_size};
 ghost use Rattle.usim_image.specs.Views.{read_of};
 
+use aka::Refusal;
+use images::ImageFormat;
 use usim_record::Usim;
 
 // Where the places begin.
@@ -25,13 +28,6 @@ pub const MOST: usize = PLACES_AT + editions::MOST_OCTETS;
 
 // Room for the packed places, and for the word that the last of them is put by.
 const ROOM: usize = editions::MOST_OCTETS + 8;
-
-// `refusal` is 0 where the record was read; otherwise the record is zero.
-#[derive(Clone, Copy, Drop)]
-pub struct ReadAnswer {
-    pub refusal: u8,
-    pub usim: Usim,
-}
 
 // The octets of an image of an edition.
 pub fn size(edition: u8) -> usize
@@ -56,34 +52,6 @@ fn put_places(image: &mut [u8], edition: u8, places: [u64; editions::PLACES])
     octets::copy(&room[..m.octets], &mut image[PLACES_AT..]);
 }
 
-// Fills an image with a valid record.
-#[tactic(auto, using(aka::proofs::Verdicts::valid_parts, aka::proofs::Places::within_below))]
-fn fill(usim: Usim, image: &mut [u8])
-    requires valid { valid_usim editions sets (usim_of usim) ≡ true }
-    requires size { length image.old ≡ image_size (width_of editions usim.edition) }
-    ensures { image.new ≡ image_of editions (usim_of usim) }
-{
-    let keys = usim.keys;
-    let places = usim.places;
-    images::put_head(image, usim.edition, keys);
-    put_places(image, usim.edition, places);
-}
-
-// Writes the image of `usim`: 0, or the refusal's number, and then the buffer is as it was.
-#[tactic(auto, unfolding(images::specs::Images::write_answer))]
-pub fn write(usim: Usim, buffer: &mut [u8]) -> u8
-    ensures { written_of result buffer.new ≡ write_answer (format editions sets) (usim_of usim) buffer.old }
-{
-    if !usim_record::is_valid(usim) {
-        return 1;
-    }
-    if buffer.len() != size(usim.edition) {
-        return 3;
-    }
-    fill(usim, buffer);
-    0
-}
-
 // The places of an image of an edition, and zeros behind them.
 fn unpack_places(image: &[u8], edition: u8) -> [u64; editions::PLACES]
     requires { length image.now ≡ image_size (width_of editions edition) }
@@ -97,49 +65,65 @@ fn unpack_places(image: &[u8], edition: u8) -> [u64; editions::PLACES]
     places
 }
 
-// The record of an image.
-fn unpack(image: &[u8]) -> Usim
-    requires { length image.now ≡ image_size (width_of editions (edition_in image.now)) }
-    ensures { usim_of result ≡ read_image editions image.now }
-{
-    let edition = images::edition_in(image);
-    Usim {
-        edition,
-        keys: images::keys_in(image),
-        places: unpack_places(image, edition),
+// The format of the card's images.
+pub struct UsimFormat;
+
+impl ImageFormat for UsimFormat {
+    type Record = Usim;
+
+    ghost View = { aka.Usim };
+
+    ghost view = { usim_of };
+
+    ghost format = { format editions sets };
+
+    ghost admits_heads = { λ x. refl };
+
+    ghost holds_head = { λ edition. has_room (places_size (width_of editions edition)) };
+
+    fn edition(held: Usim) -> u8 {
+        held.edition
+    }
+
+    fn is_valid(held: Usim) -> bool {
+        usim_record::is_valid(held)
+    }
+
+    fn size(edition: u8) -> usize {
+        size(edition)
+    }
+
+    #[tactic(auto, using(aka::proofs::Verdicts::valid_parts, aka::proofs::Places::within_below))]
+    fn fill(held: Usim, image: &mut [u8]) {
+        images::put_head(image, held.edition, held.keys);
+        put_places(image, held.edition, held.places);
+    }
+
+    fn unpack(image: &[u8]) -> Usim {
+        let edition = images::edition_in(image);
+        Usim {
+            edition,
+            keys: images::keys_in(image),
+            places: unpack_places(image, edition),
+        }
+    }
+
+    fn zero() -> Usim {
+        usim_record::new(0, images::no_keys())
     }
 }
 
-// The answer of a refused reading.
-fn refused_read(number: u8) -> ReadAnswer
-    ensures { read_of result ≡ refused_read (format editions sets) number }
+// Writes the image of `usim`. A refusal leaves the buffer as it was.
+pub fn write(usim: Usim, buffer: &mut [u8]) -> Result<(), Refusal>
+    ensures { written_of (refusal_in result) buffer.new ≡ write_answer (format editions sets) (usim_of usim) buffer.old }
 {
-    ReadAnswer {
-        refusal: number,
-        usim: usim_record::new(0, images::no_keys()),
-    }
+    images::write::<UsimFormat>(usim, buffer)
 }
 
 // Reads an image of any length and contents.
-#[tactic(auto, unfolding(images::specs::Images::read_answer))]
-pub fn read(image: &[u8]) -> ReadAnswer
-    ensures { read_of result ≡ read_answer (format editions sets) image.now }
+pub fn read(image: &[u8]) -> Result<Usim, Refusal>
+    ensures answer { read_of result ≡ read_answer (format editions sets) image.now }
+    ensures sound { IfOk result (λ usim. IsSound (format editions sets) image.now (usim_of usim)) }
 {
-    if image.len() == 0 {
-        return refused_read(3);
-    }
-    let edition = images::edition_in(image);
-    if !editions::is_known(edition) {
-        return refused_read(1);
-    }
-    if image.len() != size(edition) {
-        return refused_read(3);
-    }
-    if !functions::admits(edition, images::keys_in(image)) {
-        return refused_read(1);
-    }
-    ReadAnswer {
-        refusal: 0,
-        usim: unpack(image),
-    }
+    images::read::<UsimFormat>(image)
 }

@@ -1,3 +1,2 @@
 mod NewImages
 mod UsimAnswers
-mod AucAnswers

@@ -2,22 +2,14 @@
 use Prim.Native.Nat.{ℕ}
 use mathlib.Core.Bool.{true}
 use mathlib.Core.Path.{◌≡◌, ap, ◌∙◌}
-use lib.ListN.{length}
 use Rattle.octets.specs.Octets.{Octets, decode}
 use Rattle.functions.specs.Sets.{sets}
-use Rattle.aka.specs.Sequence.{FitsSqn, width_of}
+use Rattle.aka.specs.Sequence.{FitsSqn}
 use Rattle.aka.specs.Editions.{editions}
 use Rattle.aka.proofs.Editions.{fitting}
 use Rattle.aka.specs.Usim.{Usim, UsimAnswer, Verdict, accepted, valid_usim, sqn_in, challenge}
 use Rattle.aka.proofs.Verdicts as law
 use Rattle.usim_record.specs.Views.{sqn_due}
-use Rattle.usim_image.specs.Image.{Read, image_size, read_answer, format}
-use Rattle.usim_image.proofs.RoundTrips.{round_trips}
-
--- an image that was read has its length and a valid record
-pub read_valid : (x : Octets) (r : Read Usim) → r ≡ read_answer (format editions sets) x → r.refusal ≡ 0
-    → (length x ≡ image_size (width_of editions r.contents.edition)) × (valid_usim editions sets r.contents ≡ true)
-read_valid x r e none = rw e (round_trips.sound x (rw e at none))
 
 module _ (card : Usim) (rand autn : Octets) where
   abbrev due : UsimAnswer

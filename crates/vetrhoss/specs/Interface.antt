@@ -38,6 +38,12 @@ opc_call k op buffer =
     cond (not (are_keys k op && has key_size buffer)) (refused 3 buffer)
     (done (opc (aes k) op))
 
+-- what refuses the keys of a new record, before its other parts: 0 for none
+unfoldable pub new_keys_refusal : (edition set : ℕ) (k opc : Octets) → ℕ
+new_keys_refusal edition set k opc =
+    cond (not (is_edition edition && is_set set)) 1
+    (cond (not (are_keys k opc)) 3 0)
+
 -- a new card
 unfoldable pub new_usim_call : (edition set : ℕ) (k opc buffer : Octets) → Returned Octets
 new_usim_call edition set k opc buffer =

@@ -8,12 +8,12 @@ use Rattle.aka.specs.Editions.{editions}
 use Rattle.usim_record.specs.Views.{usim_of}
 use Rattle.images.specs.Head.{head, head_size}
 use Rattle.usim_image.specs.Image.{places_size, image}
-use Rattle.usim_image.proofs.fill.Goals as goal
+use Rattle.usim_image.proofs.UsimFormatImageFormat.fill.Goals as goal
 
 pub returns : goal.returns
 unfolding image
 returns c =
-    let usim = usim_of c.args.usim in
+    let usim = usim_of c.args.held in
     let keys = head usim.edition usim.keys in
     let w = width_of editions usim.edition in
     let d = c.args.image.now in

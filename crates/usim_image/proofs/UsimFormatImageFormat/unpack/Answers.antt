@@ -6,7 +6,7 @@ use Rattle.aka.specs.Sequence.{width_of, indices, seq_bits}
 use Rattle.aka.specs.Editions.{editions, card_places}
 use Rattle.images.specs.Head.{edition_in}
 use Rattle.usim_image.specs.Image.{places_at, places_size, read_image}
-use Rattle.usim_image.proofs.unpack.Goals as goal
+use Rattle.usim_image.proofs.UsimFormatImageFormat.unpack.Goals as goal
 
 abbrev read : (w : ℕ) → Octets → List ℕ
 read w x = digits (2 ^ seq_bits w) (indices w) (decode x) ++ zeros (card_places - indices w)

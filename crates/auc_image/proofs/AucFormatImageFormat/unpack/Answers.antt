@@ -10,7 +10,7 @@ use Rattle.aka.proofs.Editions.{fitting}
 use Rattle.images.specs.Head.{edition_in}
 use Rattle.auc_image.specs.Image.{counters_at, read_image}
 use Rattle.auc_image.proofs.Bits.{first_number, second_number}
-use Rattle.auc_image.proofs.unpack.Goals as goal
+use Rattle.auc_image.proofs.AucFormatImageFormat.unpack.Goals as goal
 
 pub returns : goal.returns
 unfolding read_image

@@ -9,15 +9,15 @@ use Rattle.aka.proofs.Outcomes.{valid_iff}
 use Rattle.auc_record.specs.Views.{auc_of}
 use Rattle.images.specs.Head.{head, head_size}
 use Rattle.auc_image.specs.Image.{image}
-use Rattle.auc_image.proofs.fill.Goals as goal
+use Rattle.auc_image.proofs.AucFormatImageFormat.fill.Goals as goal
 
 pub put_head-requires-clause-admitted : goal.put_head-requires-clause-admitted
-put_head-requires-clause-admitted c = ((valid_iff editions sets (auc_of c.args.auc)).0 c.requires.valid).0
+put_head-requires-clause-admitted c = ((valid_iff editions sets (auc_of c.args.held)).0 c.requires.valid).0
 
 pub returns : goal.returns
 unfolding image
 returns c =
-    let auc = auc_of c.args.auc in
+    let auc = auc_of c.args.held in
     let d = c.args.image.now in
     let last = c.counters_of-counters.result in
     let same = c.put_head.auto.image in
