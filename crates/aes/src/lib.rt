@@ -7,7 +7,7 @@
 ghost use Rattle.std.specs.Prelude.{◌≡◌, [], ◌∷◌, ◌≤◌};
 ghost use Rattle.octets.specs.Octets.{xor, encode};
 ghost use Rattle.aes_tables.specs.Sbox.{sbox};
-ghost use Rattle.aes_tables.specs.RoundTable.{IsRoundTable};
+ghost use Rattle.aes_tables.specs.RoundTable.{IsRoundTable, contribution};
 ghost use Rattle.aes_words.specs.Words.{octet};
 ghost use Rattle.aes_words.specs.Block.{octets_of};
 ghost use Rattle.aes_schedule.specs.KeyExpansion.{key_expansion};
@@ -96,14 +96,10 @@ impl Cipher {
     fn column(&self, a: u32, b: u32, c: u32, d: u32, k: u32) -> u32
         ensures { encode 4 result ≡ xor (mix_column (sbox (octet 0 a)) (sbox (octet 1 b)) (sbox (octet 2 c)) (sbox (octet 3 d))) (encode 4 k) }
     {
-        let e = ((a >> 24) % 256) as usize;
-        let f = ((b >> 16) % 256) as usize;
-        let g = ((c >> 8) % 256) as usize;
-        let h = (d % 256) as usize;
-        self.table[e]
-            ^ aes_words::left3(self.table[f])
-            ^ aes_words::left2(self.table[g])
-            ^ aes_words::left1(self.table[h])
+        self.entry(a >> 24)
+            ^ aes_words::left3(self.entry(b >> 16))
+            ^ aes_words::left2(self.entry(c >> 8))
+            ^ aes_words::left1(self.entry(d))
             ^ k
     }
 
@@ -111,15 +107,17 @@ impl Cipher {
     fn last_column(&self, a: u32, b: u32, c: u32, d: u32, k: u32) -> u32
         ensures { encode 4 result ≡ xor (sbox (octet 0 a) ∷ sbox (octet 1 b) ∷ sbox (octet 2 c) ∷ sbox (octet 3 d) ∷ []) (encode 4 k) }
     {
-        let e = ((a >> 24) % 256) as usize;
-        let f = ((b >> 16) % 256) as usize;
-        let g = ((c >> 8) % 256) as usize;
-        let h = (d % 256) as usize;
         aes_words::word(
-            aes_words::second(self.table[e]),
-            aes_words::second(self.table[f]),
-            aes_words::second(self.table[g]),
-            aes_words::second(self.table[h]),
+            aes_words::second(self.entry(a >> 24)),
+            aes_words::second(self.entry(b >> 16)),
+            aes_words::second(self.entry(c >> 8)),
+            aes_words::second(self.entry(d)),
         ) ^ k
+    }
+    // The table's word for the last octet of `x`.
+    fn entry(&self, x: u32) -> u32
+        ensures { encode 4 result ≡ contribution (sbox (octet 3 x)) }
+    {
+        self.table[(x % 256) as usize]
     }
 }

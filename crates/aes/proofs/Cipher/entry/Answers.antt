@@ -1,0 +1,9 @@
+-- `entry` is what the table has for the octet. Assumes nothing.
+use Rattle.std.proofs.Common.{arith}
+use Rattle.octets.specs.Octets.{digits}
+use Rattle.aes_tables.specs.RoundTable.{IsRoundTable}
+use Rattle.aes.proofs.Cipher.entry.Goals as goal
+
+pub returns : goal.returns
+unfolding digits IsRoundTable
+returns c = c.args.self.now.is_round_table _ (omega arith)
