@@ -13,15 +13,15 @@ use functions::Keys;
 pub mod places;
 
 // The places of the card hold a SEQ for each index of its edition, and zeros behind them.
-#[derive(Clone, Copy, Drop)]
+#[derive(Clone, Copy)]
 pub struct Usim {
     pub edition: u8,
     pub keys: Keys,
     pub places: [u64; editions::PLACES],
 }
 
-// An acceptance has its SQN, a refusal its number.
-#[derive(Clone, Copy, Drop)]
+// An acceptance has its SQN. A refusal has its number, and no `aka::Refusal`: `unchanged` takes any verdict.
+#[derive(Clone, Copy)]
 pub enum Verdict {
     Accepted(u64),
     Sync,
@@ -30,7 +30,7 @@ pub enum Verdict {
 }
 
 // `usim` is the next record. Octets that the verdict does not give are zero.
-#[derive(Clone, Copy, Drop)]
+#[derive(Clone, Copy)]
 pub struct Answer {
     pub verdict: Verdict,
     pub usim: Usim,
@@ -56,16 +56,10 @@ pub fn new(edition: u8, keys: Keys) -> Usim
 pub fn is_valid(usim: Usim) -> bool
     ensures { result ≡ valid_usim editions sets (usim_of usim) }
 {
-    let keys = usim.keys;
-    let places = usim.places;
-    if !functions::admits(usim.edition, keys) {
-        return false;
-    }
     let m = editions::row(usim.edition);
-    if !places::within(places, m.limit) {
-        return false;
-    }
-    places::zero_from(places, m.indices as usize)
+    functions::admits(usim.edition, usim.keys)
+        && places::within(usim.places, m.limit)
+        && places::zero_from(usim.places, m.indices as usize)
 }
 
 // An answer that changes nothing and gives no keys.
