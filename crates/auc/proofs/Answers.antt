@@ -4,6 +4,7 @@ use mathlib.Core.Bool.{Bool, true, ◌&&◌, and-true, and-eq-true_iff}
 use mathlib.Core.Path.{◌≡◌, refl, sym, ap, subst, ◌∙◌}
 use native.Mathlib.Omega.{arith}
 use lib.ListN.{length}
+use Rattle.std.specs.Prelude.{Result, Ok, Err}
 use Rattle.octets.specs.Octets.{Octets}
 use Rattle.functions.specs.Sets.{sets}
 use Rattle.aka.specs.Layout.{rand_size, vector_size, most_vectors}
@@ -14,8 +15,6 @@ use Rattle.aka.specs.Auc.{order_outcome, order, resync_outcome, resync}
 use Rattle.aka.proofs.Batches.{count_le}
 use Rattle.aka.proofs.Outcomes.{valid_iff, lent_iff, passes, answer_refused}
 use Rattle.auc_record.specs.declared.Outcome.{Outcome}
-use Rattle.auc_record.specs.declared.Checked.{Checked}
-use Rattle.auc_record.specs.declared.Checked.TheVariants.{Count, Refused}
 use Rattle.auc_record.specs.Views.{outcome_of}
 use Rattle.auc_record.specs.Checks.{first_refusals, Found}
 
@@ -28,7 +27,7 @@ module _ (auc : aka.Auc) (count : ℕ) (rands buffer : Octets) (lent : Bool) whe
   abbrev refusals : aka.Outcome → aka.Outcome
   refusals rest = first_refusals auc aka.default_count count rands (length buffer) lent rest
 
-  abbrev Finds : Checked → Type 0
+  abbrev Finds : Result ℕ Outcome → Type 0
   Finds r = Found refusals n r
 
   -- where none of them applies
@@ -39,9 +38,9 @@ module _ (auc : aka.Auc) (count : ℕ) (rands buffer : Octets) (lent : Bool) whe
     pub buffer_size : length buffer ≡ vector_size * m
     pub rest : lent ≡ true
 
-  pub asked : (r : Checked) (m : ℕ) → r ≡ Count m → Finds r → Asked m
+  pub asked : (r : Result ℕ Outcome) (m : ℕ) → r ≡ Ok m → Finds r → Asked m
   asked r m e found =
-      let f : Finds (Count m) = subst Finds e found in
+      let f : Finds (Ok m) = subst Finds e found in
       let sizes = aka.lent_for n (length rands) (length buffer) in
       let p = passes editions sets auc count n (sizes && lent) rands aka.given (ap aka.refusal_of (f.1 aka.given)) in
       let valid = (valid_iff editions sets auc).0 p.valid in
@@ -60,15 +59,15 @@ module _ (auc : aka.Auc) (count : ℕ) (rands buffer : Octets) (lent : Bool) whe
     abbrev with : (k : ℕ) → aka.Outcome → aka.AucAnswer
     with k o = aka.answer_with editions sets auc (from k) rands k buffer o
 
-    pub when_refused : (r : Checked) (o : Outcome) → r ≡ Refused o → Finds r
+    pub when_refused : (r : Result ℕ Outcome) (o : Outcome) → r ≡ Err o → Finds r
         → aka.refused_with editions sets auc buffer (outcome_of o) ≡ with n (refusals (rest n))
     when_refused r o e found =
-        let f : Finds (Refused o) = subst Finds e found in
+        let f : Finds (Err o) = subst Finds e found in
         sym (ap (with n) (f.0 (rest n)) ∙ answer_refused editions sets auc (from n) rands n buffer (outcome_of o) f.1)
 
-    pub when_asked : (r : Checked) (m : ℕ) → r ≡ Count m → Finds r → with m (rest m) ≡ with n (refusals (rest n))
+    pub when_asked : (r : Result ℕ Outcome) (m : ℕ) → r ≡ Ok m → Finds r → with m (rest m) ≡ with n (refusals (rest n))
     when_asked r m e found =
-        let f : Finds (Count m) = subst Finds e found in
+        let f : Finds (Ok m) = subst Finds e found in
         ap (λ (k : ℕ). with k (rest k)) f.0 ∙ ap (with n) (sym (f.1 (rest n)))
 
 -- ---- the whole answers

@@ -2,21 +2,22 @@
 // the vectors of a batch from `batches`.
 #![tactic(auto)]
 
-ghost use Rattle.std.specs.Prelude.{◌*◌, ◌≤◌, cond, ◌≡◌, length};
+ghost use Rattle.std.specs.Prelude.{◌*◌, ◌≤◌, ◌≡◌, length};
 ghost use Rattle.aes_tables.specs.RoundTable.{IsRoundTable};
 ghost use Rattle.functions.specs.Challenge.{keys_of, IsSchedule};
 ghost use Rattle.functions.specs.Sets.{sets};
 ghost use Rattle.aka.specs.Layout.{rand_size, vector_size, most_vectors};
 ghost use Rattle.aka.specs.Sequence.{width_of, limit};
 ghost use Rattle.aka.specs.Editions.{editions};
-ghost use Rattle.aka.specs.Auc.{AucShaped, order as order_of, resync, kept as kept_of, reset, refusal_of, lent_auts};
+ghost use Rattle.aka.specs.Auc.{AucShaped, order as order_of, resync, refusal_of, lent_auts};
 ghost use Rattle.aka.specs.Auc.{unless_past, answer_with, resync_from, auts_outcome};
 ghost use Rattle.auc_record.specs.Views.{auc_of, outcome_of, answer_of};
 
-use auc_record::Checked;
+use aka::Refusal;
 pub use auc_record::{Answer, Auc, Outcome, is_valid, new};
 use batches::Series;
 pub use batches::{offset_of, vector_at};
+use resynchronisation::Ruling;
 
 // A batch of n vectors whose SEQ follow `from`, unless the last passes the limit: refusal 6. `outcome` is that of the batch.
 fn generate(
@@ -39,7 +40,7 @@ fn generate(
 {
     let m = editions::row(auc.edition);
     if m.limit < from + (n as u64) {
-        return auc_record::refused(Outcome::Refused(6), auc);
+        return auc_record::refused(Refusal::Limit.into(), auc);
     }
     let keys = auc.keys;
     let amf = auc.amf;
@@ -63,13 +64,11 @@ pub fn order(auc: Auc, count: u64, rands: &[u8], batch: &mut [u8]) -> Answer
     ensures answer { answer_of result batch.new ≡ order_of editions sets (auc_of auc) count rands.now batch.old }
     ensures shape { AucShaped (auc_of auc) }
 {
-    let checked = auc_record::check(auc, aka::DEFAULT_COUNT, count, rands, batch.len(), true);
-    match checked {
-        Checked::Refused(outcome) => auc_record::refused(outcome, auc),
-        Checked::Count(n) => {
-            let keys = auc.keys;
+    match auc_record::check(auc, aka::DEFAULT_COUNT, count, rands, batch.len(), true) {
+        Err(outcome) => auc_record::refused(outcome, auc),
+        Ok(n) => {
             let table = aes::round_table();
-            let schedule = functions::schedule(keys);
+            let schedule = functions::schedule(auc.keys);
             generate(
                 &table,
                 &schedule,
@@ -82,16 +81,6 @@ pub fn order(auc: Auc, count: u64, rands: &[u8], batch: &mut [u8]) -> Answer
             )
         }
     }
-}
-
-// How a resynchronisation that has a batch is told.
-fn told(kept: bool) -> Outcome
-    ensures { outcome_of result ≡ cond kept kept_of reset }
-{
-    if kept {
-        return Outcome::Kept;
-    }
-    Outcome::Reset
 }
 
 // The answer to RAND and AUTS, where refusals 1 to 4 do not apply.
@@ -109,33 +98,40 @@ fn resume(
         ≡ answer_with editions sets (auc_of auc) (resync_from editions sets (auc_of auc) rand auts n) rands.now n
         batch.old (auts_outcome editions sets (auc_of auc) rand auts n) }
 {
-    let keys = auc.keys;
     let table = aes::round_table();
-    let schedule = functions::schedule(keys);
-    let ruling = resynchronisation::decide(
+    let schedule = functions::schedule(auc.keys);
+    match resynchronisation::decide(
         &table,
         &schedule,
         auc.edition,
-        keys,
+        auc.keys,
         rand,
         auts,
         auc.seqhe,
         n,
-    );
-    if ruling.refused {
-        return auc_record::refused(Outcome::Refused(5), auc);
+    ) {
+        Ok(Ruling::Kept(from)) => generate(
+            &table,
+            &schedule,
+            Outcome::Kept,
+            auc,
+            from,
+            n,
+            rands,
+            batch,
+        ),
+        Ok(Ruling::Reset(from)) => generate(
+            &table,
+            &schedule,
+            Outcome::Reset,
+            auc,
+            from,
+            n,
+            rands,
+            batch,
+        ),
+        Err(refusal) => auc_record::refused(refusal.into(), auc),
     }
-    let outcome = told(ruling.kept);
-    generate(
-        &table,
-        &schedule,
-        outcome,
-        auc,
-        ruling.from,
-        n,
-        rands,
-        batch,
-    )
 }
 
 // Whether RAND and AUTS have their lengths.
@@ -143,10 +139,7 @@ fn resume(
 fn auts_fits(rand: &[u8], auts: &[u8]) -> bool
     ensures { result ≡ lent_auts (length rand.now) (length auts.now) }
 {
-    if rand.len() != aka::RAND_SIZE {
-        return false;
-    }
-    auts.len() == aka::AUTS_SIZE
+    rand.len() == aka::RAND_SIZE && auts.len() == aka::AUTS_SIZE
 }
 
 // The AuC's whole answer to a resynchronisation, with RAND and AUTS of the synchronisation failure.
@@ -163,10 +156,9 @@ pub fn resynchronise(
     ensures shape { AucShaped (auc_of auc) }
 {
     let lent = auts_fits(rand, auts);
-    let checked = auc_record::check(auc, aka::DEFAULT_COUNT, count, rands, batch.len(), lent);
-    match checked {
-        Checked::Refused(outcome) => auc_record::refused(outcome, auc),
-        Checked::Count(n) => resume(
+    match auc_record::check(auc, aka::DEFAULT_COUNT, count, rands, batch.len(), lent) {
+        Err(outcome) => auc_record::refused(outcome, auc),
+        Ok(n) => resume(
             auc,
             n,
             octets::sixteen(rand),

@@ -1,4 +1,5 @@
 -- The code's values as the protocol has them. Assumes nothing: these are definitions.
+use Rattle.std.specs.Prelude.{ℕ, Option, Some, None}
 use Rattle.octets.specs.Octets.{Octets}
 use Rattle.functions.specs.Challenge.{keys_of}
 use Rattle.aka.specs.Auc as aka
@@ -6,8 +7,6 @@ use Rattle.auc_record.specs.declared.Auc as declared_auc
 use Rattle.auc_record.specs.declared.Answer as declared_answer
 use Rattle.auc_record.specs.declared.Outcome.{Outcome}
 use Rattle.auc_record.specs.declared.Outcome.TheVariants.{Given, Kept, Reset, Refused, Repeated}
-use Rattle.auc_record.specs.declared.pairs.Pair.{Pair}
-use Rattle.auc_record.specs.declared.pairs.Pair.TheVariants.{Unequal, EqualAt}
 
 -- the record
 abbrev pub auc_of : declared_auc.Auc → aka.Auc
@@ -26,6 +25,6 @@ abbrev pub answer_of : declared_answer.Answer → (batch : Octets) → aka.AucAn
 answer_of a batch = record { outcome = outcome_of a.outcome; n = a.n; auc = auc_of a.auc; batch = batch }
 
 -- the pair that was found
-abbrev pub pair_of : Pair → aka.Pair
-pair_of Unequal = aka.unequal
-pair_of (EqualAt i j) = aka.equal_at i j
+abbrev pub pair_of : Option (ℕ × ℕ) → aka.Pair
+pair_of None = aka.unequal
+pair_of (Some (i, j)) = aka.equal_at i j

@@ -4,19 +4,21 @@
 
 mod pairs;
 
-ghost use Rattle.std.specs.Prelude.{◌+◌, ◌≤◌, ◌≡◌};
+ghost use Rattle.std.specs.Prelude.{◌+◌, ◌≤◌, ◌&&◌, ◌≡◌};
 ghost use Rattle.octets.specs.Octets.{Octets};
 ghost use Rattle.functions.specs.Challenge.{keys_of};
 ghost use Rattle.functions.specs.Sets.{sets};
 ghost use Rattle.aka.specs.Layout.{most_vectors};
 ghost use Rattle.aka.specs.Sequence.{width_of, limit};
 ghost use Rattle.aka.specs.Editions.{editions};
-ghost use Rattle.aka.specs.Auc.{new_auc, valid_auc, count_of, after_batch, refused_with};
+ghost use Rattle.aka.specs.Refusals.{number_of};
+ghost use Rattle.aka.specs.Auc.{new_auc, valid_auc, count_of, lent_for, after_batch, refused_with};
+ghost use Rattle.auc_record.specs.declared.Outcome.TheVariants.{Refused};
 ghost use Rattle.auc_record.specs.Views.{auc_of, outcome_of, answer_of};
 ghost use Rattle.auc_record.specs.Checks.{Found, first_refusals};
 
+use aka::Refusal;
 use functions::Keys;
-use pairs::Pair;
 
 // `seqhe` is SEQ_HE, `next` the next index.
 #[derive(Clone, Copy, Drop)]
@@ -29,6 +31,7 @@ pub struct Auc {
 }
 
 // A batch: of an order, or of a resynchronisation that kept SEQ_HE or reset it. A refusal has its number; refusal 4 has its pair.
+// The number is any octet, and no `Refusal`: callers hand outcomes in, and `refused` answers each of them as it is.
 #[derive(Clone, Copy, Drop)]
 pub enum Outcome {
     Given,
@@ -46,11 +49,12 @@ pub struct Answer {
     pub auc: Auc,
 }
 
-// Refusals 1 to 4: the outcome where one of them applies, else the count that results.
-#[derive(Clone, Copy, Drop)]
-pub enum Checked {
-    Count(u8),
-    Refused(Outcome),
+impl From<Refusal> for Outcome {
+    ghost from_gives = { λ refusal outcome. outcome ≡ Refused (number_of refusal) };
+
+    fn from(refusal: Refusal) -> Outcome {
+        Outcome::Refused(refusal.number())
+    }
 }
 
 // A new record: SEQ_HE and the next index are 0.
@@ -71,15 +75,10 @@ pub fn new(edition: u8, keys: Keys, amf: [u8; aka::AMF_SIZE]) -> Auc
 pub fn is_valid(auc: Auc) -> bool
     ensures { result ≡ valid_auc editions sets (auc_of auc) }
 {
-    let keys = auc.keys;
-    if !functions::admits(auc.edition, keys) {
-        return false;
-    }
     let m = editions::row(auc.edition);
-    if m.limit < auc.seqhe {
-        return false;
-    }
-    (auc.next as u64) < m.indices
+    functions::admits(auc.edition, auc.keys)
+        && auc.seqhe <= m.limit
+        && (auc.next as u64) < m.indices
 }
 
 // The answer of a refusal: record and buffer stay as they are.
@@ -94,14 +93,10 @@ pub fn after_batch(auc: Auc, from: u64, n: u8) -> Auc
     requires { from + n ≤ limit (width_of editions auc.edition) }
     ensures { auc_of result ≡ after_batch (editions.numbering auc.edition) (auc_of auc) from n }
 {
-    let keys = auc.keys;
-    let amf = auc.amf;
     Auc {
-        edition: auc.edition,
-        keys,
-        amf,
         seqhe: from + (n as u64),
         next: editions::index_after(auc.edition, auc.next, n, 1),
+        ..auc
     }
 }
 
@@ -110,35 +105,41 @@ fn count_of(default: u8, count: u64) -> u8
     requires { count ≤ most_vectors }
     ensures { result ≡ count_of default count }
 {
-    if count == 0 {
-        return default;
-    }
-    count as u8
+    if count == 0 { default } else { count as u8 }
 }
 
-// Refusals 1 to 4. `size` is the length of the buffer; `lent`: whatever else is lent has its length.
-pub fn check(auc: Auc, default: u8, count: u64, rands: &[u8], size: usize, lent: bool) -> Checked
+// Whether each lent part has its length for n vectors: RANDs, buffer, and by `lent` whatever else is lent.
+#[tactic(auto, unfolding(aka::specs::Auc::lent_for))]
+fn lent_for(n: u8, rands: usize, buffer: usize, lent: bool) -> bool
+    ensures { result ≡ (lent_for n rands buffer && lent) }
+{
+    rands == aka::RAND_SIZE * (n as usize) && buffer == aka::VECTOR_SIZE * (n as usize) && lent
+}
+
+// Refusals 1 to 4: the outcome where one of them applies, else the count that results. `size` is the length of the buffer; `lent`: whatever
+// else is lent has its length.
+pub fn check(
+    auc: Auc,
+    default: u8,
+    count: u64,
+    rands: &[u8],
+    size: usize,
+    lent: bool,
+) -> Result<u8, Outcome>
     ensures { Found (first_refusals (auc_of auc) default count rands.now size lent) (count_of default count) result }
 {
     if !is_valid(auc) {
-        return Checked::Refused(Outcome::Refused(1));
+        return Err(Refusal::Invalid.into());
     }
     if aka::MOST_VECTORS < count {
-        return Checked::Refused(Outcome::Refused(2));
+        return Err(Refusal::Count.into());
     }
     let n = count_of(default, count);
-    if rands.len() != aka::RAND_SIZE * (n as usize) {
-        return Checked::Refused(Outcome::Refused(3));
+    if !lent_for(n, rands.len(), size, lent) {
+        return Err(Refusal::Length.into());
     }
-    if size != aka::VECTOR_SIZE * (n as usize) {
-        return Checked::Refused(Outcome::Refused(3));
+    match pairs::equal_pair(rands, n) {
+        Some((i, j)) => Err(Outcome::Repeated(i, j)),
+        None => Ok(n),
     }
-    if !lent {
-        return Checked::Refused(Outcome::Refused(3));
-    }
-    let pair = pairs::equal_pair(rands, n);
-    let Pair::EqualAt(i, j) = pair else {
-        return Checked::Count(n);
-    };
-    Checked::Refused(Outcome::Repeated(i, j))
 }

@@ -5,13 +5,6 @@ ghost use Rattle.aka.specs.Layout.{rand_size, rand_at};
 ghost use Rattle.aka.specs.Auc.{equal_pair};
 ghost use Rattle.auc_record.specs.Views.{pair_of};
 
-// No two RANDs are equal, or those at these places are.
-#[derive(Clone, Copy, Drop)]
-pub enum Pair {
-    Unequal,
-    EqualAt(u8, u8),
-}
-
 // Whether the RANDs at places i and j are equal.
 fn equal_rands(rands: &[u8], i: u8, j: u8) -> bool
     requires { (rand_size * i + rand_size ≤ length rands.now) × (rand_size * j + rand_size ≤ length rands.now) }
@@ -23,22 +16,18 @@ fn equal_rands(rands: &[u8], i: u8, j: u8) -> bool
 }
 
 // The earliest pair among n RANDs: the smallest first place, then the smallest second.
-pub fn equal_pair(rands: &[u8], n: u8) -> Pair
+pub fn equal_pair(rands: &[u8], n: u8) -> Option<(u8, u8)>
     requires { length rands.now ≡ rand_size * n }
     ensures { pair_of result ≡ equal_pair rands.now n }
 {
-    let mut pair = Pair::Unequal;
-    let mut i: u8 = 0;
-    'search: while i < n {
-        let mut j = i + 1;
-        while j < n {
+    let mut pair = None;
+    'search: for i in 0..n {
+        for j in i + 1..n {
             if equal_rands(rands, i, j) {
-                pair = Pair::EqualAt(i, j);
+                pair = Some((i, j));
                 break 'search;
             }
-            j += 1;
         }
-        i += 1;
     }
     pair
 }

@@ -14,14 +14,14 @@ ghost use Rattle.aka.specs.Editions.{editions};
 ghost use Rattle.aka.specs.Auc.{in_range, sqn_ms_in, mac_s_right};
 ghost use Rattle.resynchronisation.specs.Rulings.{Ruled};
 
+use aka::Refusal;
 use functions::{Challenge, Keys};
 
-// `refused`: out of range and MAC-S wrong, refusal 5. `kept`: SEQ_HE is in range. `from`: SEQ_HE, kept or reset, which the batch follows.
+// SEQ_HE is kept where it is in range, and otherwise reset; the number is SEQ_HE as it then stands, which the batch follows.
 #[derive(Clone, Copy, Drop)]
-pub struct Ruling {
-    pub refused: bool,
-    pub kept: bool,
-    pub from: u64,
+pub enum Ruling {
+    Kept(u64),
+    Reset(u64),
 }
 
 // Whether SEQ_HE is at least SEQ_MS and no number of the batch passes SEQ_MS + D.
@@ -30,10 +30,7 @@ fn in_range(seqhe: u64, seqms: u64, n: u8) -> bool
     requires { (n ≤ most_vectors) × (seqhe < 2 ^ sqn_bits) × (seqms < 2 ^ sqn_bits) }
     ensures { result ≡ in_range seqhe seqms n }
 {
-    if seqhe < seqms {
-        return false;
-    }
-    seqhe + (n as u64) <= seqms + aka::D
+    seqms <= seqhe && seqhe + (n as u64) <= seqms + aka::D
 }
 
 // SQN_MS, which AUTS conceals with AK*: f5* of RAND.
@@ -66,7 +63,7 @@ fn mac_s_right(
     octets::equal_without_early_end(&mac, &expected)
 }
 
-// In range SEQ_HE is kept, and MAC-S is not looked at. Otherwise MAC-S is verified, and SEQ_HE becomes SEQ_MS.
+// In range SEQ_HE is kept, and MAC-S is not looked at. Otherwise MAC-S is verified, and SEQ_HE becomes SEQ_MS; refusal 5 where it is wrong.
 pub fn decide(
     table: &[u32; 256],
     schedule: &[u32; 44],
@@ -76,7 +73,7 @@ pub fn decide(
     auts: [u8; aka::AUTS_SIZE],
     seqhe: u64,
     n: u8,
-) -> Ruling
+) -> Result<Ruling, Refusal>
     requires made { IsRoundTable table.now × IsSchedule (keys_of keys) schedule.now }
     requires room { (n ≤ most_vectors) × (seqhe ≤ limit (width_of editions edition)) }
     ensures { Ruled (width_of editions edition) (sets.under (keys_of keys)) rand auts seqhe n result }
@@ -86,16 +83,10 @@ pub fn decide(
     let m = editions::row(edition);
     let ms = tokens::sqn_number(sqn) / m.indices;
     if in_range(seqhe, ms, n) {
-        return Ruling {
-            refused: false,
-            kept: true,
-            from: seqhe,
-        };
-    }
-    let right = mac_s_right(table, schedule, c, sqn, auts);
-    Ruling {
-        refused: !right,
-        kept: false,
-        from: ms,
+        Ok(Ruling::Kept(seqhe))
+    } else if mac_s_right(table, schedule, c, sqn, auts) {
+        Ok(Ruling::Reset(ms))
+    } else {
+        Err(Refusal::MacS)
     }
 }

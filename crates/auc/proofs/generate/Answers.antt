@@ -26,7 +26,7 @@ returns-then-m-from c =
     let beyond = subst (λ (most : ℕ). most < a.from + a.n) c.row-m.ensures.limit c.if-m-from.true in
     let past = is_past editions sets auc a.from a.n (outcome_of a.outcome) beyond in
     let none = answer_refused editions sets auc a.from a.rands.now a.n a.batch.now (refused 6) refl in
-    c.refused.ensures a.batch.now ∙ sym (ap (answer_with editions sets auc a.from a.rands.now a.n a.batch.now) past ∙ none)
+    (rw c.into.ensures at (c.refused.ensures a.batch.now)) ∙ sym (ap (answer_with editions sets auc a.from a.rands.now a.n a.batch.now) past ∙ none)
 
 pub returns : goal.returns
 returns c =

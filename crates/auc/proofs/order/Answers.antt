@@ -17,27 +17,27 @@ outcome auc m = unless_past editions sets auc auc.seqhe m given
 pub generate-requires-clause-room : goal.generate-requires-clause-room
 generate-requires-clause-room c =
     let a = c.args in
-    let r = asked (auc_of a.auc) a.count a.rands.now a.batch.now true _ _ c.in-Count.is c.check-checked.ensures in
+    let r = asked (auc_of a.auc) a.count a.rands.now a.batch.now true _ _ c.in-Ok.is c.check.ensures in
     (r.few, r.seqhe)
 
 pub generate-requires-clause-lent : goal.generate-requires-clause-lent
 generate-requires-clause-lent c =
     let a = c.args in
-    let r = asked (auc_of a.auc) a.count a.rands.now a.batch.now true _ _ c.in-Count.is c.check-checked.ensures in
+    let r = asked (auc_of a.auc) a.count a.rands.now a.batch.now true _ _ c.in-Ok.is c.check.ensures in
     (r.rands_size_lem, r.buffer_size)
 
-pub returns-in-Refused-clause-answer : goal.returns-in-Refused-clause-answer
-returns-in-Refused-clause-answer c =
+pub returns-in-Err-clause-answer : goal.returns-in-Err-clause-answer
+returns-in-Err-clause-answer c =
     let a = c.args in
     let auc = auc_of a.auc in
     c.refused.ensures a.batch.now
-    ∙ when_refused auc a.count a.rands.now a.batch.now true (from auc) (outcome auc) _ _ c.in-Refused.is c.check-checked.ensures
+    ∙ when_refused auc a.count a.rands.now a.batch.now true (from auc) (outcome auc) _ _ c.in-Err.is c.check.ensures
     ∙ order_is auc a.count a.rands.now a.batch.now
 
-pub returns-in-Count-clause-answer : goal.returns-in-Count-clause-answer
-returns-in-Count-clause-answer c =
+pub returns-in-Ok-clause-answer : goal.returns-in-Ok-clause-answer
+returns-in-Ok-clause-answer c =
     let a = c.args in
     let auc = auc_of a.auc in
     c.generate.ensures
-    ∙ when_asked auc a.count a.rands.now a.batch.now true (from auc) (outcome auc) _ _ c.in-Count.is c.check-checked.ensures
+    ∙ when_asked auc a.count a.rands.now a.batch.now true (from auc) (outcome auc) _ _ c.in-Ok.is c.check.ensures
     ∙ order_is auc a.count a.rands.now a.batch.now

@@ -1,12 +1,12 @@
 -- `resynchronise` is the whole answer: the lowest refusal that applies, else the batch, SEQ_HE kept or reset.
-use Rattle.std.proofs.Common.{ℕ, Bool, ◌≡◌, length, sym, ap₂, ◌∙◌, subst}
+use Rattle.std.proofs.Common.{ℕ, Bool, Result, ◌≡◌, length, sym, ap₂, ◌∙◌, subst}
 use Rattle.octets.specs.Octets.{Octets}
 use Rattle.functions.specs.Sets.{sets}
 use Rattle.aka.specs.Editions.{editions}
 use Rattle.aka.specs.Auc.{Auc, Outcome, count_of, default_count, lent_auts, resync_from, auts_outcome, answer_with}
 use Rattle.aka.proofs.Outcomes.{lent_auts_iff}
 use Rattle.auc_record.specs.Views.{auc_of}
-use Rattle.auc_record.specs.declared.Checked.{Checked}
+use Rattle.auc_record.specs.declared.Outcome as code
 use Rattle.auc_record.specs.Checks.{first_refusals, Found}
 use Rattle.auc.proofs.Answers.{asked, when_refused, when_asked, resync_is}
 use Rattle.auc.proofs.resynchronise.Goals as goal
@@ -19,7 +19,7 @@ abbrev outcome : Auc → (rand auts : Octets) → (m : ℕ) → Outcome
 outcome auc rand auts m = auts_outcome editions sets auc rand auts m
 
 -- what the check found, by the lengths of RAND and AUTS
-found : (auc : Auc) (count : ℕ) (rands buffer : Octets) (r : Checked) (lent lent' : Bool) → lent ≡ lent'
+found : (auc : Auc) (count : ℕ) (rands buffer : Octets) (r : Result ℕ code.Outcome) (lent lent' : Bool) → lent ≡ lent'
     → Found (first_refusals auc default_count count rands (length buffer) lent) (count_of default_count count) r
     → Found (first_refusals auc default_count count rands (length buffer) lent') (count_of default_count count) r
 found auc count rands buffer r lent lent' e f =
@@ -28,48 +28,48 @@ found auc count rands buffer r lent lent' e f =
 pub sixteen-requires : goal.sixteen-requires
 sixteen-requires c =
     let a = c.args in
-    let r = asked (auc_of a.auc) a.count a.rands.now a.batch.now c.auts_fits-lent.result _ _ c.in-Count.is c.check-checked.ensures in
+    let r = asked (auc_of a.auc) a.count a.rands.now a.batch.now c.auts_fits-lent.result _ _ c.in-Ok.is c.check.ensures in
     ((lent_auts_iff (length a.rand.now) (length a.auts.now)).0 (sym c.auts_fits-lent.ensures ∙ r.rest)).0
 
 pub fourteen-requires : goal.fourteen-requires
 fourteen-requires c =
     let a = c.args in
-    let r = asked (auc_of a.auc) a.count a.rands.now a.batch.now c.auts_fits-lent.result _ _ c.in-Count.is c.check-checked.ensures in
+    let r = asked (auc_of a.auc) a.count a.rands.now a.batch.now c.auts_fits-lent.result _ _ c.in-Ok.is c.check.ensures in
     ((lent_auts_iff (length a.rand.now) (length a.auts.now)).0 (sym c.auts_fits-lent.ensures ∙ r.rest)).1
 
 pub resume-requires-clause-room : goal.resume-requires-clause-room
 resume-requires-clause-room c =
     let a = c.args in
-    let r = asked (auc_of a.auc) a.count a.rands.now a.batch.now c.auts_fits-lent.result _ _ c.in-Count.is c.check-checked.ensures in
+    let r = asked (auc_of a.auc) a.count a.rands.now a.batch.now c.auts_fits-lent.result _ _ c.in-Ok.is c.check.ensures in
     (r.few, r.seqhe)
 
 pub resume-requires-clause-lent : goal.resume-requires-clause-lent
 resume-requires-clause-lent c =
     let a = c.args in
-    let r = asked (auc_of a.auc) a.count a.rands.now a.batch.now c.auts_fits-lent.result _ _ c.in-Count.is c.check-checked.ensures in
+    let r = asked (auc_of a.auc) a.count a.rands.now a.batch.now c.auts_fits-lent.result _ _ c.in-Ok.is c.check.ensures in
     (r.rands_size_lem, r.buffer_size)
 
-pub returns-in-Refused-clause-answer : goal.returns-in-Refused-clause-answer
-returns-in-Refused-clause-answer c =
+pub returns-in-Err-clause-answer : goal.returns-in-Err-clause-answer
+returns-in-Err-clause-answer c =
     let a = c.args in
     let auc = auc_of a.auc in
     let lent = lent_auts (length a.rand.now) (length a.auts.now) in
-    let was = found auc a.count a.rands.now a.batch.now _ _ lent c.auts_fits-lent.ensures c.check-checked.ensures in
+    let was = found auc a.count a.rands.now a.batch.now _ _ lent c.auts_fits-lent.ensures c.check.ensures in
     c.refused.ensures a.batch.now
     ∙ when_refused auc a.count a.rands.now a.batch.now lent (from auc a.rand.now a.auts.now) (outcome auc a.rand.now a.auts.now) _ _
-    c.in-Refused.is was
+    c.in-Err.is was
     ∙ resync_is auc a.count a.rands.now a.batch.now a.rand.now a.auts.now
 
-pub returns-in-Count-clause-answer : goal.returns-in-Count-clause-answer
-returns-in-Count-clause-answer c =
+pub returns-in-Ok-clause-answer : goal.returns-in-Ok-clause-answer
+returns-in-Ok-clause-answer c =
     let a = c.args in
     let auc = auc_of a.auc in
-    let m = c.in-Count.n in
+    let m = c.in-Ok.n in
     let lent = lent_auts (length a.rand.now) (length a.auts.now) in
-    let was = found auc a.count a.rands.now a.batch.now _ _ lent c.auts_fits-lent.ensures c.check-checked.ensures in
+    let was = found auc a.count a.rands.now a.batch.now _ _ lent c.auts_fits-lent.ensures c.check.ensures in
     c.resume.ensures
     ∙ ap₂ (λ (x y : Octets). answer_with editions sets auc (from auc x y m) a.rands.now m a.batch.now (outcome auc x y m))
     c.sixteen.ensures c.fourteen.ensures
     ∙ when_asked auc a.count a.rands.now a.batch.now lent (from auc a.rand.now a.auts.now) (outcome auc a.rand.now a.auts.now) _ _
-    c.in-Count.is was
+    c.in-Ok.is was
     ∙ resync_is auc a.count a.rands.now a.batch.now a.rand.now a.auts.now

@@ -9,7 +9,6 @@ loop-j-preserved c =
     let differ = sym c.equal_rands.ensures ∙ c.if-equal_rands.false in
     record {
       behind = omega arith;
-      within = omega arith;
       none = l.invariant.none;
       decides = l.invariant.decides ∙ with_miss c.args.rands.now c.args.n c.search.i l.j (omega arith) differ;
     }
@@ -20,7 +19,6 @@ search-preserved c =
     let l = c.loop-j in
     let none = l.invariant.decides ∙ with_end c.args.rands.now c.args.n s.i l.j (omega arith) in
     record {
-      within = omega arith;
       none = l.invariant.none;
       decides = s.invariant.decides ∙ from_miss c.args.rands.now c.args.n s.i (omega arith) none;
     }

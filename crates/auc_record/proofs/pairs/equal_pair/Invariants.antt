@@ -1,5 +1,5 @@
 -- What was looked at holds no pair, so the places from i and j on decide.
-use Rattle.std.proofs.Common.{◌+◌, ◌-◌, ◌<◌, ◌≤◌, ◌≡◌}
+use Rattle.std.proofs.Common.{◌+◌, ◌-◌, ◌<◌, ◌≡◌}
 use Rattle.aka.specs.Auc.{unequal, pair_with, pair_from}
 use Rattle.auc_record.specs.Views.{pair_of}
 use Rattle.auc_record.proofs.pairs.equal_pair.Given as goal
@@ -7,20 +7,12 @@ use Rattle.auc_record.proofs.pairs.equal_pair.Given as goal
 abbrev pub invariant-loop-j : goal.invariant-loop-j
 invariant-loop-j l = record {
   behind : l.i < l.j;
-  within : l.j ≤ l.n;
   none : pair_of l.pair ≡ unequal;
   decides : pair_with l.rands l.i (l.i + 1) (l.n - (l.i + 1)) ≡ pair_with l.rands l.i l.j (l.n - l.j);
 }
 
-abbrev pub decreases-loop-j : goal.decreases-loop-j
-decreases-loop-j l = l.n - l.j
-
 abbrev pub invariant-search : goal.invariant-search
 invariant-search l = record {
-  within : l.i ≤ l.n;
   none : pair_of l.pair ≡ unequal;
   decides : pair_from l.rands 0 l.n ≡ pair_from l.rands l.i (l.n - l.i);
 }
-
-abbrev pub decreases-search : goal.decreases-search
-decreases-search l = l.n - l.i
