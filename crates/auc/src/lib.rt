@@ -161,8 +161,8 @@ pub fn resynchronise(
         Ok(n) => resume(
             auc,
             n,
-            octets::sixteen(rand),
-            octets::fourteen(auts),
+            octets::array(rand),
+            octets::array(auts),
             rands,
             batch,
         ),

@@ -56,7 +56,7 @@ fn put_at(
         ++ drop (vector_size * k + vector_size) batch.old }
 {
     let p = aka::RAND_SIZE * (k as usize);
-    let rand = octets::sixteen(&rands[p..p + aka::RAND_SIZE]);
+    let rand = octets::array(&rands[p..p + aka::RAND_SIZE]);
     let c = functions::prepare(table, schedule, s.keys, rand);
     let v = vectors::make(table, schedule, c, sqn_at(s, k), s.amf, rand);
     vectors::put(v, batch, aka::VECTOR_SIZE * (k as usize));

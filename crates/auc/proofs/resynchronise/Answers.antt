@@ -1,5 +1,5 @@
 -- `resynchronise` is the whole answer: the lowest refusal that applies, else the batch, SEQ_HE kept or reset.
-use Rattle.std.proofs.Common.{ℕ, Bool, Result, ◌≡◌, length, sym, ap₂, ◌∙◌, subst}
+use Rattle.std.proofs.Common.{ℕ, Bool, Result, ◌≡◌, length, sym, ap₂, ◌∙◌, subst, arith}
 use Rattle.octets.specs.Octets.{Octets}
 use Rattle.functions.specs.Sets.{sets}
 use Rattle.aka.specs.Editions.{editions}
@@ -25,17 +25,17 @@ found : (auc : Auc) (count : ℕ) (rands buffer : Octets) (r : Result ℕ code.O
 found auc count rands buffer r lent lent' e f =
     subst (λ (b : Bool). Found (first_refusals auc default_count count rands (length buffer) b) (count_of default_count count) r) e f
 
-pub sixteen-requires : goal.sixteen-requires
-sixteen-requires c =
+pub array-requires : goal.array-requires
+array-requires c =
     let a = c.args in
     let r = asked (auc_of a.auc) a.count a.rands.now a.batch.now c.auts_fits-lent.result _ _ c.in-Ok.is c.check.ensures in
-    ((lent_auts_iff (length a.rand.now) (length a.auts.now)).0 (sym c.auts_fits-lent.ensures ∙ r.rest)).0
+    (omega arith, ((lent_auts_iff (length a.rand.now) (length a.auts.now)).0 (sym c.auts_fits-lent.ensures ∙ r.rest)).0)
 
-pub fourteen-requires : goal.fourteen-requires
-fourteen-requires c =
+pub array-requires-in-Ok : goal.array-requires-in-Ok
+array-requires-in-Ok c =
     let a = c.args in
     let r = asked (auc_of a.auc) a.count a.rands.now a.batch.now c.auts_fits-lent.result _ _ c.in-Ok.is c.check.ensures in
-    ((lent_auts_iff (length a.rand.now) (length a.auts.now)).0 (sym c.auts_fits-lent.ensures ∙ r.rest)).1
+    (omega arith, ((lent_auts_iff (length a.rand.now) (length a.auts.now)).0 (sym c.auts_fits-lent.ensures ∙ r.rest)).1)
 
 pub resume-requires-clause-room : goal.resume-requires-clause-room
 resume-requires-clause-room c =
@@ -69,7 +69,7 @@ returns-in-Ok-clause-answer c =
     let was = found auc a.count a.rands.now a.batch.now _ _ lent c.auts_fits-lent.ensures c.check.ensures in
     c.resume.ensures
     ∙ ap₂ (λ (x y : Octets). answer_with editions sets auc (from auc x y m) a.rands.now m a.batch.now (outcome auc x y m))
-    c.sixteen.ensures c.fourteen.ensures
+    c.array.ensures c.array-in-Ok.ensures
     ∙ when_asked auc a.count a.rands.now a.batch.now lent (from auc a.rand.now a.auts.now) (outcome auc a.rand.now a.auts.now) _ _
     c.in-Ok.is was
     ∙ resync_is auc a.count a.rands.now a.batch.now a.rand.now a.auts.now
