@@ -3,8 +3,6 @@
 #![tactic(auto)]
 
 ghost use Rattle.std.specs.Prelude.{◌*◌, ◌≤◌, ◌≡◌, length};
-ghost use Rattle.aes_tables.specs.RoundTable.{IsRoundTable};
-ghost use Rattle.functions.specs.Challenge.{keys_of, IsSchedule};
 ghost use Rattle.functions.specs.Sets.{sets};
 ghost use Rattle.aka.specs.Layout.{rand_size, vector_size, most_vectors};
 ghost use Rattle.aka.specs.Sequence.{width_of, limit};
@@ -17,12 +15,12 @@ use aka::Refusal;
 pub use auc_record::{Answer, Auc, Outcome, is_valid, new};
 use batches::Series;
 pub use batches::{offset_of, vector_at};
+use functions::PreparedKeys;
 use resynchronisation::Ruling;
 
 // A batch of n vectors whose SEQ follow `from`, unless the last passes the limit: refusal 6. `outcome` is that of the batch.
 fn generate(
-    table: &[u32; 256],
-    schedule: &[u32; 44],
+    keys: &PreparedKeys,
     outcome: Outcome,
     auc: Auc,
     from: u64,
@@ -30,7 +28,7 @@ fn generate(
     rands: &[u8],
     batch: &mut [u8],
 ) -> Answer
-    requires made { IsRoundTable table.now × IsSchedule (keys_of auc.keys) schedule.now }
+    requires made { keys.now.keys ≡ auc.keys }
     requires room { (n ≤ most_vectors) × (from ≤ limit (width_of editions auc.edition)) }
     requires lent { (length rands.now ≡ rand_size * n) × (length batch.old ≡ vector_size * n) }
     requires given { refusal_of (outcome_of outcome) ≡ 0 }
@@ -42,7 +40,6 @@ fn generate(
     if m.limit < from + (n as u64) {
         return auc_record::refused(Refusal::Limit.into(), auc);
     }
-    let keys = auc.keys;
     let amf = auc.amf;
     let s = Series {
         edition: auc.edition,
@@ -51,7 +48,7 @@ fn generate(
         from,
         next: auc.next,
     };
-    batches::fill(table, schedule, s, rands, n, batch);
+    batches::fill(s, rands, n, batch);
     Answer {
         outcome,
         n,
@@ -67,18 +64,8 @@ pub fn order(auc: Auc, count: u64, rands: &[u8], batch: &mut [u8]) -> Answer
     match auc_record::check(auc, aka::DEFAULT_COUNT, count, rands, batch.len(), true) {
         Err(outcome) => auc_record::refused(outcome, auc),
         Ok(n) => {
-            let table = aes::round_table();
-            let schedule = functions::schedule(auc.keys);
-            generate(
-                &table,
-                &schedule,
-                Outcome::Given,
-                auc,
-                auc.seqhe,
-                n,
-                rands,
-                batch,
-            )
+            let keys = PreparedKeys::new(auc.keys);
+            generate(&keys, Outcome::Given, auc, auc.seqhe, n, rands, batch)
         }
     }
 }
@@ -98,38 +85,10 @@ fn resume(
         ≡ answer_with editions sets (auc_of auc) (resync_from editions sets (auc_of auc) rand auts n) rands.now n
         batch.old (auts_outcome editions sets (auc_of auc) rand auts n) }
 {
-    let table = aes::round_table();
-    let schedule = functions::schedule(auc.keys);
-    match resynchronisation::decide(
-        &table,
-        &schedule,
-        auc.edition,
-        auc.keys,
-        rand,
-        auts,
-        auc.seqhe,
-        n,
-    ) {
-        Ok(Ruling::Kept(from)) => generate(
-            &table,
-            &schedule,
-            Outcome::Kept,
-            auc,
-            from,
-            n,
-            rands,
-            batch,
-        ),
-        Ok(Ruling::Reset(from)) => generate(
-            &table,
-            &schedule,
-            Outcome::Reset,
-            auc,
-            from,
-            n,
-            rands,
-            batch,
-        ),
+    let keys = PreparedKeys::new(auc.keys);
+    match resynchronisation::decide(&keys, auc.edition, rand, auts, auc.seqhe, n) {
+        Ok(Ruling::Kept(from)) => generate(&keys, Outcome::Kept, auc, from, n, rands, batch),
+        Ok(Ruling::Reset(from)) => generate(&keys, Outcome::Reset, auc, from, n, rands, batch),
         Err(refusal) => auc_record::refused(refusal.into(), auc),
     }
 }

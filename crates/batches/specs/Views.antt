@@ -10,7 +10,7 @@ use Rattle.batches.specs.declared.vectors.Vector as declared_vector
 
 -- the record that a batch is made from; SEQ_HE is then the number that its SEQ follow
 abbrev pub counted_by : declared_series.Series → aka.Auc
-counted_by s = record { edition = s.edition; keys = keys_of s.keys; amf = s.amf; seqhe = s.from; next = s.next }
+counted_by s = record { edition = s.edition; keys = keys_of s.keys.now.keys; amf = s.amf; seqhe = s.from; next = s.next }
 
 -- a vector
 abbrev pub vector_of : declared_vector.Vector → layout.Vector

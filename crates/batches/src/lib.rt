@@ -4,8 +4,6 @@
 mod vectors;
 
 ghost use Rattle.std.specs.Prelude.{◌+◌, ◌*◌, ◌≤◌, ◌<◌, ◌++◌, ◌≡◌, length, take, drop};
-ghost use Rattle.aes_tables.specs.RoundTable.{IsRoundTable};
-ghost use Rattle.functions.specs.Challenge.{keys_of, IsSchedule};
 ghost use Rattle.functions.specs.Sets.{sets};
 ghost use Rattle.octets.specs.Octets.{encode};
 ghost use Rattle.aka.specs.Layout.{sqn_size, rand_size, vector_size, most_vectors, write_vector, is_batch, vector_offset, vector_part};
@@ -14,13 +12,14 @@ ghost use Rattle.aka.specs.Editions.{editions};
 ghost use Rattle.aka.specs.Auc.{seq_at, ind_at, vector_from, batch_from};
 ghost use Rattle.batches.specs.Views.{counted_by, offset_in, start_in};
 
-use functions::Keys;
+use functions::PreparedKeys;
+use vectors::Vector;
 
 // What the vectors of a batch are made with: their SEQ follow `from`, and `next` is the index of the first.
 #[derive(Clone, Copy, Drop)]
-pub struct Series {
+pub struct Series<'a> {
     pub edition: u8,
-    pub keys: Keys,
+    pub keys: &'a PreparedKeys,
     pub amf: [u8; aka::AMF_SIZE],
     pub from: u64,
     pub next: u8,
@@ -31,7 +30,8 @@ fn sqn_at(s: Series, k: u8) -> [u8; aka::SQN_SIZE]
     requires { s.from + 1 + k ≤ limit (width_of editions s.edition) }
     ensures { result
         ≡ encode sqn_size (
-        sqn_of (width_of editions s.edition) (seq_at s.from k) (ind_at (editions.numbering s.edition) (counted_by s) k)
+        sqn_of (width_of editions s.entry.edition) (seq_at s.entry.from k)
+        (ind_at (editions.numbering s.entry.edition) (counted_by s.entry) k)
         ) }
 {
     let ind = editions::index_after(s.edition, s.next, k, 0);
@@ -39,45 +39,28 @@ fn sqn_at(s: Series, k: u8) -> [u8; aka::SQN_SIZE]
 }
 
 // Puts the vector at place k into the batch. What stands before and behind stays.
-fn put_at(
-    table: &[u32; 256],
-    schedule: &[u32; 44],
-    s: Series,
-    rands: &[u8],
-    k: u8,
-    batch: &mut [u8],
-)
-    requires made { IsRoundTable table.now × IsSchedule (keys_of s.keys) schedule.now }
+fn put_at(s: Series, rands: &[u8], k: u8, batch: &mut [u8])
     requires room { s.from + 1 + k ≤ limit (width_of editions s.edition) }
     requires lent { (rand_size * k + rand_size ≤ length rands.now) × (vector_size * k + vector_size ≤ length batch.old) }
     ensures { batch.new
         ≡ take (vector_size * k) batch.old
-        ++ write_vector (vector_from editions sets (counted_by s) s.from rands.now k)
+        ++ write_vector (vector_from editions sets (counted_by s.entry) s.entry.from rands.now k)
         ++ drop (vector_size * k + vector_size) batch.old }
 {
     let p = aka::RAND_SIZE * (k as usize);
     let rand = octets::array(&rands[p..p + aka::RAND_SIZE]);
-    let c = functions::prepare(table, schedule, s.keys, rand);
-    let v = vectors::make(table, schedule, c, sqn_at(s, k), s.amf, rand);
-    vectors::put(v, batch, aka::VECTOR_SIZE * (k as usize));
+    let v = Vector::new(s.keys, sqn_at(s, k), s.amf, rand);
+    v.put(batch, aka::VECTOR_SIZE * (k as usize));
 }
 
 // Fills a buffer with a batch of n vectors.
-pub fn fill(
-    table: &[u32; 256],
-    schedule: &[u32; 44],
-    s: Series,
-    rands: &[u8],
-    n: u8,
-    batch: &mut [u8],
-)
-    requires made { IsRoundTable table.now × IsSchedule (keys_of s.keys) schedule.now }
+pub fn fill(s: Series, rands: &[u8], n: u8, batch: &mut [u8])
     requires room { (n ≤ most_vectors) × (s.from + n ≤ limit (width_of editions s.edition)) }
     requires lent { (length rands.now ≡ rand_size * n) × (length batch.old ≡ vector_size * n) }
-    ensures { batch.new ≡ batch_from editions sets (counted_by s) s.from rands.now n }
+    ensures { batch.new ≡ batch_from editions sets (counted_by s.entry) s.entry.from rands.now n }
 {
     for k in 0..n {
-        put_at(table, schedule, s, rands, k, batch);
+        put_at(s, rands, k, batch);
     }
 }
 

@@ -37,5 +37,5 @@ returns c =
     let within = not_past editions sets auc a.from a.n outcome inside in
     let given = answer_given editions sets auc a.from a.rands.now a.n a.batch.now outcome c.requires.given in
     let batch = same_batch auc.edition auc.keys auc.amf a.from auc.seqhe auc.next a.from a.rands.now a.n in
-    ap₂ (told outcome a.n) c.after_batch.ensures (c.fill.ensures ∙ batch)
+    ap₂ (told outcome a.n) c.after_batch.ensures ((rw c.requires.made at c.fill.ensures) ∙ batch)
     ∙ sym (ap (answer_with editions sets auc a.from a.rands.now a.n a.batch.now) within ∙ given)

@@ -29,13 +29,13 @@ module _ (auc : Auc) (rand auts rands buffer : Octets) (n : ℕ) where
 pub returns-in-Ok-Kept : goal.returns-in-Ok-Kept
 returns-in-Ok-Kept c =
     let a = c.args in
-    let ruled = rw c.in-Ok-Kept.field-0-is at c.in-Ok-Kept.ensures in
+    let ruled = rw (c.in-Ok-Kept.field-0-is, c.new-keys.ensures) at c.in-Ok-Kept.ensures in
     c.generate.ensures ∙ follows (auc_of a.auc) a.rand a.auts a.rands.now a.batch.now a.n (Kept c.in-Ok-Kept.from) ruled
 
 pub returns-in-Ok-Reset : goal.returns-in-Ok-Reset
 returns-in-Ok-Reset c =
     let a = c.args in
-    let ruled = rw c.in-Ok-Reset.field-0-is at c.in-Ok-Reset.ensures in
+    let ruled = rw (c.in-Ok-Reset.field-0-is, c.new-keys.ensures) at c.in-Ok-Reset.ensures in
     c.generate-in-Ok-Reset.ensures
     ∙ follows (auc_of a.auc) a.rand a.auts a.rands.now a.batch.now a.n (Reset c.in-Ok-Reset.from) ruled
 
@@ -45,6 +45,6 @@ returns-in-Err c =
     let auc = auc_of a.auc in
     let from = resync_from editions sets auc a.rand a.auts a.n in
     let told = rw (c.into.ensures, c.in-Err.ensures.1) at (c.refused.ensures a.batch.now) in
-    let five = auts_five editions sets auc a.rand a.auts a.n c.in-Err.ensures.0 in
+    let five = auts_five editions sets auc a.rand a.auts a.n (rw c.new-keys.ensures at c.in-Err.ensures.0) in
     let none = answer_refused editions sets auc from a.rands.now a.n a.batch.now (refused 5) refl in
     told ∙ sym (ap (answer_with editions sets auc from a.rands.now a.n a.batch.now) five ∙ none)

@@ -20,20 +20,20 @@ pub in_range-requires : goal.in_range-requires
 in_range-requires c =
     let below = limit_below c.args.edition in
     let seq = within c.args.edition c.sqn_number.result c.row-m.result.indices c.row-m.ensures.indices.number c.sqn_number.ensures.1 in
-    (c.requires.room.0, omega (arith, below), omega (arith, below))
+    (c.requires.0, omega (arith, below), omega (arith, below))
 
 pub returns-then-mac_s_right : goal.returns-then-mac_s_right
 returns-then-mac_s_right c =
     let a = c.args in
     let w = width_of editions a.edition in
-    let F = sets.under (keys_of a.keys) in
-    let sqn_is = c.sqn_ms-sqn.ensures (keys_of a.keys) a.rand c.prepare-c.ensures in
+    let F = sets.under (keys_of a.keys.now.keys) in
+    let sqn_is = c.sqn_ms-sqn.ensures (keys_of a.keys.now.keys) a.rand c.prepare-prepared.ensures in
     let ms_is : c.sqn_number.result / c.row-m.result.indices ≡ seq_ms_in w F a.rand a.auts
     = ap₂ (λ (x n : ℕ). x / n) (c.sqn_number.ensures.0 ∙ ap decode sqn_is) c.row-m.ensures.indices.number in
     let reset : in_range a.seqhe (seq_ms_in w F a.rand a.auts) a.n ≡ false
     = ap (λ (m : ℕ). in_range a.seqhe m a.n) (sym ms_is) ∙ sym c.if-in_range.ensures in
     record {
-      refused = rw reset (ap not (sym (c.mac_s_right.ensures (keys_of a.keys) a.rand c.prepare-c.ensures sqn_is) ∙ c.if-mac_s_right.true));
+      refused = rw reset (ap not (sym (c.mac_s_right.ensures (keys_of a.keys.now.keys) a.rand c.prepare-prepared.ensures sqn_is) ∙ c.if-mac_s_right.true));
       kept = sym reset;
       from = rw reset ms_is;
       within = within a.edition c.sqn_number.result c.row-m.result.indices c.row-m.ensures.indices.number c.sqn_number.ensures.1;

@@ -4,7 +4,7 @@ use lib.ListN.{take-append-drop}
 use Rattle.octets.specs.Octets.{Octets}
 use Rattle.octets.proofs.PartByPart.{filled, put_next}
 use Rattle.aka.specs.Layout.{rand_size, res_size, ck_size, ik_size, autn_size, xres_at, ck_at, ik_at, autn_at, vector_size, write_vector}
-use Rattle.batches.proofs.vectors.put.Goals as goal
+use Rattle.batches.proofs.vectors.Vector.put.Goals as goal
 
 regroup : (z a b c d e : Octets) → ((((z ++ a) ++ b) ++ c) ++ d) ++ e ≡ z ++ (a ++ (b ++ (c ++ (d ++ e))))
 regroup z a b c d e = simp append_assoc
@@ -14,7 +14,7 @@ pub returns : goal.returns
 unfolding write_vector
 returns c =
     let a = c.args in
-    let v = a.v in
+    let v = a.self.now in
     let d = a.batch.now in
     let front = take a.at d in
     let rand_long : length v.rand ≡ rand_size = search rules in
