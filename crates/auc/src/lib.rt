@@ -13,31 +13,30 @@ ghost use Rattle.auc_record.specs.Views.{auc_of, outcome_of, answer_of};
 
 use aka::Refusal;
 pub use auc_record::{Answer, Auc, Outcome, is_valid, new};
-use batches::Series;
+use batches::{Rands, Series};
 pub use batches::{offset_of, vector_at};
 use functions::PreparedKeys;
 use resynchronisation::Ruling;
 
-// A batch of n vectors whose SEQ follow `from`, unless the last passes the limit: refusal 6. `outcome` is that of the batch.
+// The batch of these RANDs whose SEQ follow `from`, unless the last passes the limit: refusal 6. `outcome` is that of the batch.
 fn generate(
     keys: &PreparedKeys,
     outcome: Outcome,
     auc: Auc,
     from: u64,
-    n: u8,
-    rands: &[u8],
+    rands: Rands,
     batch: &mut [u8],
 ) -> Answer
     requires made { keys.now.keys ≡ auc.keys }
-    requires room { (n ≤ most_vectors) × (from ≤ limit (width_of editions auc.edition)) }
-    requires lent { (length rands.now ≡ rand_size * n) × (length batch.old ≡ vector_size * n) }
+    requires room { from ≤ limit (width_of editions auc.edition) }
+    requires lent { length batch.old ≡ vector_size * rands.n }
     requires given { refusal_of (outcome_of outcome) ≡ 0 }
     ensures { answer_of result batch.new
-        ≡ answer_with editions sets (auc_of auc) from rands.now n batch.old
-        (unless_past editions sets (auc_of auc) from n (outcome_of outcome)) }
+        ≡ answer_with editions sets (auc_of auc) from rands.entry.octets.now rands.entry.n batch.old
+        (unless_past editions sets (auc_of auc) from rands.entry.n (outcome_of outcome)) }
 {
     let m = editions::row(auc.edition);
-    if m.limit < from + (n as u64) {
+    if m.limit < from + (rands.n as u64) {
         return auc_record::refused(Refusal::Limit.into(), auc);
     }
     let amf = auc.amf;
@@ -48,11 +47,11 @@ fn generate(
         from,
         next: auc.next,
     };
-    batches::fill(s, rands, n, batch);
+    batches::fill(s, rands, batch);
     Answer {
         outcome,
-        n,
-        auc: auc_record::after_batch(auc, from, n),
+        n: rands.n,
+        auc: auc_record::after_batch(auc, from, rands.n),
     }
 }
 
@@ -65,7 +64,8 @@ pub fn order(auc: Auc, count: u64, rands: &[u8], batch: &mut [u8]) -> Answer
         Err(outcome) => auc_record::refused(outcome, auc),
         Ok(n) => {
             let keys = PreparedKeys::new(auc.keys);
-            generate(&keys, Outcome::Given, auc, auc.seqhe, n, rands, batch)
+            let rands = Rands { octets: rands, n };
+            generate(&keys, Outcome::Given, auc, auc.seqhe, rands, batch)
         }
     }
 }
@@ -73,22 +73,21 @@ pub fn order(auc: Auc, count: u64, rands: &[u8], batch: &mut [u8]) -> Answer
 // The answer to RAND and AUTS, where refusals 1 to 4 do not apply.
 fn resume(
     auc: Auc,
-    n: u8,
     rand: [u8; aka::RAND_SIZE],
     auts: [u8; aka::AUTS_SIZE],
-    rands: &[u8],
+    rands: Rands,
     batch: &mut [u8],
 ) -> Answer
-    requires room { (n ≤ most_vectors) × (auc.seqhe ≤ limit (width_of editions auc.edition)) }
-    requires lent { (length rands.now ≡ rand_size * n) × (length batch.old ≡ vector_size * n) }
+    requires room { auc.seqhe ≤ limit (width_of editions auc.edition) }
+    requires lent { length batch.old ≡ vector_size * rands.n }
     ensures { answer_of result batch.new
-        ≡ answer_with editions sets (auc_of auc) (resync_from editions sets (auc_of auc) rand auts n) rands.now n
-        batch.old (auts_outcome editions sets (auc_of auc) rand auts n) }
+        ≡ answer_with editions sets (auc_of auc) (resync_from editions sets (auc_of auc) rand auts rands.entry.n) rands.entry.octets.now
+        rands.entry.n batch.old (auts_outcome editions sets (auc_of auc) rand auts rands.entry.n) }
 {
     let keys = PreparedKeys::new(auc.keys);
-    match resynchronisation::decide(&keys, auc.edition, rand, auts, auc.seqhe, n) {
-        Ok(Ruling::Kept(from)) => generate(&keys, Outcome::Kept, auc, from, n, rands, batch),
-        Ok(Ruling::Reset(from)) => generate(&keys, Outcome::Reset, auc, from, n, rands, batch),
+    match resynchronisation::decide(&keys, auc.edition, rand, auts, auc.seqhe, rands.n) {
+        Ok(Ruling::Kept(from)) => generate(&keys, Outcome::Kept, auc, from, rands, batch),
+        Ok(Ruling::Reset(from)) => generate(&keys, Outcome::Reset, auc, from, rands, batch),
         Err(refusal) => auc_record::refused(refusal.into(), auc),
     }
 }
@@ -117,13 +116,9 @@ pub fn resynchronise(
     let lent = auts_fits(rand, auts);
     match auc_record::check(auc, aka::DEFAULT_COUNT, count, rands, batch.len(), lent) {
         Err(outcome) => auc_record::refused(outcome, auc),
-        Ok(n) => resume(
-            auc,
-            n,
-            octets::array(rand),
-            octets::array(auts),
-            rands,
-            batch,
-        ),
+        Ok(n) => {
+            let rands = Rands { octets: rands, n };
+            resume(auc, octets::array(rand), octets::array(auts), rands, batch)
+        }
     }
 }

@@ -1,6 +1,7 @@
 // Batches of authentication vectors: the vectors written one behind the other into lent octets, and one of them found again.
 #![tactic(auto)]
 
+mod rands;
 mod vectors;
 
 ghost use Rattle.std.specs.Prelude.{◌+◌, ◌*◌, ◌≤◌, ◌<◌, ◌++◌, ◌≡◌, length, take, drop};
@@ -13,6 +14,7 @@ ghost use Rattle.aka.specs.Auc.{seq_at, ind_at, vector_from, batch_from};
 ghost use Rattle.batches.specs.Views.{counted_by, offset_in, start_in};
 
 use functions::PreparedKeys;
+pub use rands::Rands;
 use vectors::Vector;
 
 // What the vectors of a batch are made with: their SEQ follow `from`, and `next` is the index of the first.
@@ -39,27 +41,25 @@ fn sqn_at(s: Series, k: u8) -> [u8; aka::SQN_SIZE]
 }
 
 // Puts the vector at place k into the batch. What stands before and behind stays.
-fn put_at(s: Series, rands: &[u8], k: u8, batch: &mut [u8])
+fn put_at(s: Series, rands: Rands, k: u8, batch: &mut [u8])
     requires room { s.from + 1 + k ≤ limit (width_of editions s.edition) }
-    requires lent { (rand_size * k + rand_size ≤ length rands.now) × (vector_size * k + vector_size ≤ length batch.old) }
+    requires lent { (k < rands.n) × (vector_size * k + vector_size ≤ length batch.old) }
     ensures { batch.new
         ≡ take (vector_size * k) batch.old
-        ++ write_vector (vector_from editions sets (counted_by s.entry) s.entry.from rands.now k)
+        ++ write_vector (vector_from editions sets (counted_by s.entry) s.entry.from rands.entry.octets.now k)
         ++ drop (vector_size * k + vector_size) batch.old }
 {
-    let p = aka::RAND_SIZE * (k as usize);
-    let rand = octets::array(&rands[p..p + aka::RAND_SIZE]);
-    let v = Vector::new(s.keys, sqn_at(s, k), s.amf, rand);
+    let v = Vector::new(s.keys, sqn_at(s, k), s.amf, rands.at(k));
     v.put(batch, aka::VECTOR_SIZE * (k as usize));
 }
 
-// Fills a buffer with a batch of n vectors.
-pub fn fill(s: Series, rands: &[u8], n: u8, batch: &mut [u8])
-    requires room { (n ≤ most_vectors) × (s.from + n ≤ limit (width_of editions s.edition)) }
-    requires lent { (length rands.now ≡ rand_size * n) × (length batch.old ≡ vector_size * n) }
-    ensures { batch.new ≡ batch_from editions sets (counted_by s.entry) s.entry.from rands.now n }
+// Fills a buffer with the batch of these RANDs.
+pub fn fill(s: Series, rands: Rands, batch: &mut [u8])
+    requires room { s.from + rands.n ≤ limit (width_of editions s.edition) }
+    requires lent { length batch.old ≡ vector_size * rands.n }
+    ensures { batch.new ≡ batch_from editions sets (counted_by s.entry) s.entry.from rands.entry.octets.now rands.entry.n }
 {
-    for k in 0..n {
+    for k in 0..rands.n {
         put_at(s, rands, k, batch);
     }
 }

@@ -23,19 +23,20 @@ pub returns-then-m-from : goal.returns-then-m-from
 returns-then-m-from c =
     let a = c.args in
     let auc = auc_of a.auc in
-    let beyond = subst (λ (most : ℕ). most < a.from + a.n) c.row-m.ensures.limit c.if-m-from.true in
-    let past = is_past editions sets auc a.from a.n (outcome_of a.outcome) beyond in
-    let none = answer_refused editions sets auc a.from a.rands.now a.n a.batch.now (refused 6) refl in
-    (rw c.into.ensures at (c.refused.ensures a.batch.now)) ∙ sym (ap (answer_with editions sets auc a.from a.rands.now a.n a.batch.now) past ∙ none)
+    let beyond = subst (λ (most : ℕ). most < a.from + a.rands.n) c.row-m.ensures.limit c.if-m-from.true in
+    let past = is_past editions sets auc a.from a.rands.n (outcome_of a.outcome) beyond in
+    let none = answer_refused editions sets auc a.from a.rands.octets.now a.rands.n a.batch.now (refused 6) refl in
+    let told = rw c.into.ensures at (c.refused.ensures a.batch.now) in
+    told ∙ sym (ap (answer_with editions sets auc a.from a.rands.octets.now a.rands.n a.batch.now) past ∙ none)
 
 pub returns : goal.returns
 returns c =
     let a = c.args in
     let auc = auc_of a.auc in
     let outcome = outcome_of a.outcome in
-    let inside = subst (λ (most : ℕ). a.from + a.n ≤ most) c.row-m.ensures.limit c.if-m-from.false in
-    let within = not_past editions sets auc a.from a.n outcome inside in
-    let given = answer_given editions sets auc a.from a.rands.now a.n a.batch.now outcome c.requires.given in
-    let batch = same_batch auc.edition auc.keys auc.amf a.from auc.seqhe auc.next a.from a.rands.now a.n in
-    ap₂ (told outcome a.n) c.after_batch.ensures ((rw c.requires.made at c.fill.ensures) ∙ batch)
-    ∙ sym (ap (answer_with editions sets auc a.from a.rands.now a.n a.batch.now) within ∙ given)
+    let inside = subst (λ (most : ℕ). a.from + a.rands.n ≤ most) c.row-m.ensures.limit c.if-m-from.false in
+    let within = not_past editions sets auc a.from a.rands.n outcome inside in
+    let given = answer_given editions sets auc a.from a.rands.octets.now a.rands.n a.batch.now outcome c.requires.given in
+    let batch = same_batch auc.edition auc.keys auc.amf a.from auc.seqhe auc.next a.from a.rands.octets.now a.rands.n in
+    ap₂ (told outcome a.rands.n) c.after_batch.ensures ((rw c.requires.made at c.fill.ensures) ∙ batch)
+    ∙ sym (ap (answer_with editions sets auc a.from a.rands.octets.now a.rands.n a.batch.now) within ∙ given)

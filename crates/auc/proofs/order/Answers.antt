@@ -14,17 +14,23 @@ from auc m = auc.seqhe
 abbrev outcome : Auc → (m : ℕ) → Outcome
 outcome auc m = unless_past editions sets auc auc.seqhe m given
 
+pub invariant_of-rands : goal.invariant_of-rands
+invariant_of-rands c =
+    let a = c.args in
+    let r = asked (auc_of a.auc) a.count a.rands.now a.batch.now true _ _ c.in-Ok.is c.check.ensures in
+    record { few = r.few; whole = r.rands_size_lem }
+
 pub generate-requires-clause-room : goal.generate-requires-clause-room
 generate-requires-clause-room c =
     let a = c.args in
     let r = asked (auc_of a.auc) a.count a.rands.now a.batch.now true _ _ c.in-Ok.is c.check.ensures in
-    (r.few, r.seqhe)
+    r.seqhe
 
 pub generate-requires-clause-lent : goal.generate-requires-clause-lent
 generate-requires-clause-lent c =
     let a = c.args in
     let r = asked (auc_of a.auc) a.count a.rands.now a.batch.now true _ _ c.in-Ok.is c.check.ensures in
-    (r.rands_size_lem, r.buffer_size)
+    r.buffer_size
 
 pub returns-in-Err-clause-answer : goal.returns-in-Err-clause-answer
 returns-in-Err-clause-answer c =

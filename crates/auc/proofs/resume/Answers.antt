@@ -30,21 +30,21 @@ pub returns-in-Ok-Kept : goal.returns-in-Ok-Kept
 returns-in-Ok-Kept c =
     let a = c.args in
     let ruled = rw (c.in-Ok-Kept.field-0-is, c.new-keys.ensures) at c.in-Ok-Kept.ensures in
-    c.generate.ensures ∙ follows (auc_of a.auc) a.rand a.auts a.rands.now a.batch.now a.n (Kept c.in-Ok-Kept.from) ruled
+    c.generate.ensures ∙ follows (auc_of a.auc) a.rand a.auts a.rands.octets.now a.batch.now a.rands.n (Kept c.in-Ok-Kept.from) ruled
 
 pub returns-in-Ok-Reset : goal.returns-in-Ok-Reset
 returns-in-Ok-Reset c =
     let a = c.args in
     let ruled = rw (c.in-Ok-Reset.field-0-is, c.new-keys.ensures) at c.in-Ok-Reset.ensures in
     c.generate-in-Ok-Reset.ensures
-    ∙ follows (auc_of a.auc) a.rand a.auts a.rands.now a.batch.now a.n (Reset c.in-Ok-Reset.from) ruled
+    ∙ follows (auc_of a.auc) a.rand a.auts a.rands.octets.now a.batch.now a.rands.n (Reset c.in-Ok-Reset.from) ruled
 
 pub returns-in-Err : goal.returns-in-Err
 returns-in-Err c =
     let a = c.args in
     let auc = auc_of a.auc in
-    let from = resync_from editions sets auc a.rand a.auts a.n in
+    let from = resync_from editions sets auc a.rand a.auts a.rands.n in
     let told = rw (c.into.ensures, c.in-Err.ensures.1) at (c.refused.ensures a.batch.now) in
-    let five = auts_five editions sets auc a.rand a.auts a.n (rw c.new-keys.ensures at c.in-Err.ensures.0) in
-    let none = answer_refused editions sets auc from a.rands.now a.n a.batch.now (refused 5) refl in
-    told ∙ sym (ap (answer_with editions sets auc from a.rands.now a.n a.batch.now) five ∙ none)
+    let five = auts_five editions sets auc a.rand a.auts a.rands.n (rw c.new-keys.ensures at c.in-Err.ensures.0) in
+    let none = answer_refused editions sets auc from a.rands.octets.now a.rands.n a.batch.now (refused 5) refl in
+    told ∙ sym (ap (answer_with editions sets auc from a.rands.octets.now a.rands.n a.batch.now) five ∙ none)

@@ -37,17 +37,23 @@ array-requires-in-Ok c =
     let r = asked (auc_of a.auc) a.count a.rands.now a.batch.now c.auts_fits-lent.result _ _ c.in-Ok.is c.check.ensures in
     (omega arith, ((lent_auts_iff (length a.rand.now) (length a.auts.now)).0 (sym c.auts_fits-lent.ensures ∙ r.rest)).1)
 
+pub invariant_of-rands : goal.invariant_of-rands
+invariant_of-rands c =
+    let a = c.args in
+    let r = asked (auc_of a.auc) a.count a.rands.now a.batch.now c.auts_fits-lent.result _ _ c.in-Ok.is c.check.ensures in
+    record { few = r.few; whole = r.rands_size_lem }
+
 pub resume-requires-clause-room : goal.resume-requires-clause-room
 resume-requires-clause-room c =
     let a = c.args in
     let r = asked (auc_of a.auc) a.count a.rands.now a.batch.now c.auts_fits-lent.result _ _ c.in-Ok.is c.check.ensures in
-    (r.few, r.seqhe)
+    r.seqhe
 
 pub resume-requires-clause-lent : goal.resume-requires-clause-lent
 resume-requires-clause-lent c =
     let a = c.args in
     let r = asked (auc_of a.auc) a.count a.rands.now a.batch.now c.auts_fits-lent.result _ _ c.in-Ok.is c.check.ensures in
-    (r.rands_size_lem, r.buffer_size)
+    r.buffer_size
 
 pub returns-in-Err-clause-answer : goal.returns-in-Err-clause-answer
 returns-in-Err-clause-answer c =

@@ -11,14 +11,14 @@ use Rattle.batches.proofs.fill.Goals as goal
 
 pub loop-k-init : goal.loop-k-init
 loop-k-init c =
-    let none = batch_none editions sets (counted_by c.args.s) c.args.s.from c.args.rands.now in
+    let none = batch_none editions sets (counted_by c.args.s) c.args.s.from c.args.rands.octets.now in
     rw none (record { size = refl; is = refl })
 
 pub loop-k-preserved : goal.loop-k-preserved
 loop-k-preserved c =
     let l = c.loop-k in
     let s = c.args.s in
-    let rands = c.args.rands.now in
+    let rands = c.args.rands.octets.now in
     let further : vector_size * l.k + vector_size ≡ vector_size * (l.k + 1) = omega arith in
     let vector = write_vector (vector_from editions sets (counted_by s) s.from rands l.k) in
     let next = put_next vector vector_size l.invariant c.put_at.ensures (c.put_at.auto.batch ∙ l.auto.batch) (omega arith) in
@@ -28,5 +28,5 @@ pub returns : goal.returns
 returns c =
     let l = c.loop-k in
     let s = c.args.s in
-    let end : l.k ≡ c.args.n = omega arith in
-    filled_all l.invariant (omega (arith, end)) ∙ ap (batch_from editions sets (counted_by s) s.from c.args.rands.now) end
+    let end : l.k ≡ c.args.rands.n = omega arith in
+    filled_all l.invariant (omega (arith, end)) ∙ ap (batch_from editions sets (counted_by s) s.from c.args.rands.octets.now) end

@@ -9,4 +9,6 @@ use Rattle.batches.specs.Views.{counted_by}
 use Rattle.batches.proofs.fill.Given as goal
 
 abbrev pub invariant-loop-k : goal.invariant-loop-k
-invariant-loop-k l = Filled l.initial.batch (batch_from editions sets (counted_by l.s) l.s.from l.rands l.k) (vector_size * l.k) l.batch
+invariant-loop-k l =
+    let done = batch_from editions sets (counted_by l.s) l.s.from l.rands.octets.now l.k in
+    Filled l.initial.batch done (vector_size * l.k) l.batch

@@ -32,8 +32,9 @@ returns-then-mac_s_right c =
     = ap₂ (λ (x n : ℕ). x / n) (c.sqn_number.ensures.0 ∙ ap decode sqn_is) c.row-m.ensures.indices.number in
     let reset : in_range a.seqhe (seq_ms_in w F a.rand a.auts) a.n ≡ false
     = ap (λ (m : ℕ). in_range a.seqhe m a.n) (sym ms_is) ∙ sym c.if-in_range.ensures in
+    let right = c.mac_s_right.ensures (keys_of a.keys.now.keys) a.rand c.prepare-prepared.ensures sqn_is in
     record {
-      refused = rw reset (ap not (sym (c.mac_s_right.ensures (keys_of a.keys.now.keys) a.rand c.prepare-prepared.ensures sqn_is) ∙ c.if-mac_s_right.true));
+      refused = rw reset (ap not (sym right ∙ c.if-mac_s_right.true));
       kept = sym reset;
       from = rw reset ms_is;
       within = within a.edition c.sqn_number.result c.row-m.result.indices c.row-m.ensures.indices.number c.sqn_number.ensures.1;

@@ -12,4 +12,6 @@ unfolding mac_s_right
 returns c = λ keys rand s e.
     c.equal_without_early_end.ensures
     ∙ ap₂ equal c.mac_s_in-mac.ensures
-    (c.f1s-expected.ensures ∙ (gives keys rand c.args.prepared.now s).f1* _ _ ∙ ap (λ (sqn : Octets). (sets.under keys).f1* sqn rand dummy_amf) e)
+    (c.f1s-expected.ensures
+    ∙ (gives keys rand c.args.prepared.now s).f1* _ _
+    ∙ ap (λ (sqn : Octets). (sets.under keys).f1* sqn rand dummy_amf) e)
