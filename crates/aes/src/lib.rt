@@ -97,9 +97,9 @@ impl Cipher {
         ensures { encode 4 result ≡ xor (mix_column (sbox (octet 0 a)) (sbox (octet 1 b)) (sbox (octet 2 c)) (sbox (octet 3 d))) (encode 4 k) }
     {
         self.entry(a >> 24)
-            ^ aes_words::left3(self.entry(b >> 16))
-            ^ aes_words::left2(self.entry(c >> 8))
-            ^ aes_words::left1(self.entry(d))
+            ^ aes_words::left(self.entry(b >> 16), 3)
+            ^ aes_words::left(self.entry(c >> 8), 2)
+            ^ aes_words::left(self.entry(d), 1)
             ^ k
     }
 

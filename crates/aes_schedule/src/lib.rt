@@ -27,7 +27,7 @@ fn temp(sbox: &[u8; 256], x: u32, rc: u8) -> u32
     requires { IsSbox sbox.now }
     ensures { result ≡ bit_xor (sub_word (rot_word x)) (decode (rc ∷ 0 ∷ 0 ∷ 0 ∷ [])) }
 {
-    sub_word(sbox, aes_words::left1(x)) ^ aes_words::word(rc, 0, 0, 0)
+    sub_word(sbox, aes_words::left(x, 1)) ^ aes_words::word(rc, 0, 0, 0)
 }
 
 // The words of a round key, from w[4 round] on. `rc` is the first octet of Rcon[round].

@@ -1,14 +1,16 @@
 -- Words as four octets: turning, and the octets by shifts. Assumes nothing.
 use Prim.Native.Nat.{ℕ, zero, suc, ◌+◌, ◌*◌, ◌/◌, ◌%◌, ◌^◌, ◌<◌}
-use mathlib.Core.List.{[], ◌∷◌, ◌++◌}
+use mathlib.Core.List.{[], ◌∷◌, ◌++◌, append-nil}
 use mathlib.Core.Path.{◌≡◌, sym, ap, ap₂, ◌∙◌}
 use native.Mathlib.Omega.{arith}
 use lib.Arith.{digits_div}
+use lib.Bits.{bit_or, or_self, or_shifted}
 use lib.ListN.{length}
 use lib.Pow.{shr-shr}
+use Rattle.std.specs.Int.{w32, rotate_left}
 use lib.Seq.{take_at, drop_at}
-use Rattle.octets.specs.Octets.{Octets, turn_left, Below, digits, spelt, encode}
-use Rattle.octets.proofs.Numbers.{length_digits, digits_split, digits_low, digits_number}
+use Rattle.octets.specs.Octets.{Octets, turn_left, digits, encode}
+use Rattle.octets.proofs.Numbers.{length_digits, digits_split, digits_low}
 
 -- the octets by shifts
 pub shifted2 : (x : ℕ) → x / 0x10000 ≡ x / 256 / 256
@@ -41,16 +43,23 @@ module _ (i j x : ℕ) (h : x / 256 ^ j < 256 ^ i) where
   pub turned : (q r : ℕ) → q * 256 ^ (j + i) + r ≡ x * 256 ^ i + x / 256 ^ j → encode (j + i) r ≡ turn_left i (encode (i + j) x)
   turned q r e = sym (digits_low 256 (j + i) q r (omega arith)) ∙ ap (encode (j + i)) e ∙ moved
 
--- four octets as a word
-pub spelt4 : (e f g h r : ℕ) → e < 256 → f < 256 → g < 256 → h < 256
-    → r ≡ e * 0x1000000 + f * 0x10000 + g * 0x100 + h → encode 4 r ≡ e ∷ f ∷ g ∷ h ∷ []
-unfolding spelt
-spelt4 e f g h r he hf hg hh p =
-    ap (encode 4) (omega arith) ∙ digits_number 256 (e ∷ f ∷ g ∷ h ∷ []) below
-  where
-    below : Below 256 (e ∷ f ∷ g ∷ h ∷ [])
-    below zero l = he
-    below (suc zero) l = hf
-    below (suc (suc zero)) l = hg
-    below (suc (suc (suc zero))) l = hh
-    below (suc (suc (suc (suc i)))) l = absurd (omega arith)
+-- what the library's turn of a word by 8 bits an octet gives
+pub rotated : (n x : ℕ) {r : ℕ} → n < 4 → x < 2 ^ 32 → r ≡ rotate_left w32 x (8 * n) → encode 4 r ≡ turn_left n (encode 4 x)
+unfolding turn_left
+rotated zero x small fits e =
+    let low : x * 1 % 0x100000000 ≡ x = omega arith in
+    let high : x / 1 ≡ x = omega arith in
+    ap (encode 4) (e ∙ ap₂ bit_or low high ∙ or_self x) ∙ sym (append-nil (encode 4 x))
+rotated (suc zero) x small fits e =
+    let low : x * 0x100 % 0x100000000 ≡ x % 0x1000000 * 0x100 = omega arith in
+    let sum = e ∙ ap (λ (y : ℕ). bit_or y (x / 0x1000000)) low ∙ or_shifted (x % 0x1000000) 8 (x / 0x1000000) (omega arith) in
+    turned 1 3 x (omega arith) (x * 0x100 / 0x100000000) _ (omega arith)
+rotated (suc (suc zero)) x small fits e =
+    let low : x * 0x10000 % 0x100000000 ≡ x % 0x10000 * 0x10000 = omega arith in
+    let sum = e ∙ ap (λ (y : ℕ). bit_or y (x / 0x10000)) low ∙ or_shifted (x % 0x10000) 16 (x / 0x10000) (omega arith) in
+    turned 2 2 x (omega arith) (x * 0x10000 / 0x100000000) _ (omega arith)
+rotated (suc (suc (suc zero))) x small fits e =
+    let low : x * 0x1000000 % 0x100000000 ≡ x % 0x100 * 0x1000000 = omega arith in
+    let sum = e ∙ ap (λ (y : ℕ). bit_or y (x / 0x100)) low ∙ or_shifted (x % 0x100) 24 (x / 0x100) (omega arith) in
+    turned 3 1 x (omega arith) (x * 0x1000000 / 0x100000000) _ (omega arith)
+rotated (suc (suc (suc (suc n)))) x small fits e = absurd (omega arith)

@@ -11,3 +11,4 @@ mod Comparing
 pub mod Copies
 pub mod Refusals
 pub mod PartByPart
+pub mod Bytes

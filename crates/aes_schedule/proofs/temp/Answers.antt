@@ -8,5 +8,5 @@ use Rattle.aes_schedule.proofs.temp.Goals as goal
 pub returns : goal.returns
 unfolding rot_word
 returns c =
-    ap₂ bit_xor (c.sub_word.ensures ∙ ap sub_word (whole c.left1.result _ (omega arith) c.left1.ensures))
+    ap₂ bit_xor (c.sub_word.ensures ∙ ap sub_word (whole c.left.result _ (omega arith) c.left.ensures))
     (whole c.word.result _ (omega arith) c.word.ensures)

@@ -1,9 +1,6 @@
--- `second` is the octet at place 1.
-use Rattle.std.proofs.Common.{ℕ, ◌%◌, ap}
-use Rattle.octets.specs.Octets.{digits}
-use Rattle.aes_words.proofs.Turns.{shifted2}
+use Rattle.std.proofs.Common.{List, ℕ, ap, ◌∙◌, get_or}
+use Rattle.octets.proofs.Bytes.{encoded}
 use Rattle.aes_words.proofs.second.Goals as goal
 
 pub returns : goal.returns
-unfolding digits
-returns c = ap (λ (y : ℕ). y % 256) (shifted2 c.args.x)
+returns c = ap (λ (l : List ℕ). get_or l 1 0) (c.to_be_bytes.ensures ∙ encoded 4 c.args.x)

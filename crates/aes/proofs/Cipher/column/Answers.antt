@@ -14,4 +14,4 @@ returns c =
     (c.entry.ensures ∙ ap (λ (y : ℕ). contribution (sbox (y % 256))) (shifted3 c.args.a))
     (c.entry-2.ensures ∙ ap (λ (y : ℕ). contribution (sbox (y % 256))) (shifted2 c.args.b))
     c.entry-3.ensures c.entry-4.ensures
-    c.left3.ensures c.left2.ensures c.left1.ensures
+    c.left.ensures c.left-2.ensures c.left-3.ensures
