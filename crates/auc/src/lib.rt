@@ -39,6 +39,7 @@ fn generate(
     if m.limit < from + (rands.n as u64) {
         return auc_record::refused(Refusal::Limit.into(), auc);
     }
+    // An array goes into a literal under a name.
     let amf = auc.amf;
     let s = Series {
         edition: auc.edition,

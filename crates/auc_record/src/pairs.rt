@@ -15,7 +15,8 @@ fn equal_rands(rands: &[u8], i: u8, j: u8) -> bool
     octets::equal(&rands[p..p + aka::RAND_SIZE], &rands[q..q + aka::RAND_SIZE])
 }
 
-// The earliest pair among n RANDs: the smallest first place, then the smallest second.
+// The earliest pair among n RANDs: the smallest first place, then the smallest second. Two loops, left by label at the first pair: the form
+// that document 01 names.
 pub fn equal_pair(rands: &[u8], n: u8) -> Option<(u8, u8)>
     requires { length rands.now ≡ rand_size * n }
     ensures { pair_of result ≡ equal_pair rands.now n }

@@ -85,7 +85,8 @@ pub fn offset_of(size: usize, k: u64) -> Option<usize>
     }
 }
 
-// The vector at place k, as the part of the caller's own batch that begins at its offset; an empty part stands for refusal 3.
+// The vector at place k, as the part of the caller's own batch that begins at its offset; an empty part stands for refusal 3,
+// and no `None`: document 01 asks for a part, and the contract says of the empty one too where it lies.
 pub fn vector_at<'a>(batch: &'a [u8], k: u64) -> &'a [u8]
     ensures octets { result.now ≡ vector_part batch.now k }
     ensures place { result.ref_ptr ≡ start_in (vector_offset (length batch.now) k) batch.entry.ref_ptr }
