@@ -18,16 +18,11 @@ fn challenge(desk: Desk, request: vlr::Reply) -> DeskAnswer
         ≡ on_verdict (desk_of desk) (ask_answer (desk_of desk)).vlr (card_answer (desk_of desk)) (sqn_asked (desk_of desk))
         (card_answer (desk_of desk)).verdict }
 {
-    let usim = desk.usim;
-    let vlr = request.vlr;
-    let rand = request.rand;
-    let autn = request.autn;
-    let answer = usim::challenge(usim, &rand, &autn);
-    let verdict = answer.verdict;
-    let Verdict::Accepted(sqn) = verdict else {
-        return reports::failure(desk, vlr, answer);
+    let answer = usim::challenge(desk.usim, &request.rand, &request.autn);
+    let Verdict::Accepted(sqn) = answer.verdict else {
+        return reports::failure(desk, request.vlr, answer);
     };
-    reports::response(desk, vlr, answer, sqn)
+    reports::response(desk, request.vlr, answer, sqn)
 }
 
 // One authentication of the card by the node.
@@ -35,12 +30,9 @@ fn challenge(desk: Desk, request: vlr::Reply) -> DeskAnswer
 pub fn ask(desk: Desk) -> DeskAnswer
     ensures { desk_answer_of result ≡ ask_of (desk_of desk) }
 {
-    let vlr = desk.vlr;
-    let request = vlr::ask(vlr);
-    let outcome = request.outcome;
-    let number = bench_desk::node_refusal(outcome);
-    if number != 0 {
-        return bench_desk::refused(desk, number);
+    let request = vlr::ask(desk.vlr);
+    match bench_desk::node_refusal(request.outcome) {
+        Some(number) => bench_desk::refused(desk, number),
+        None => challenge(desk, request),
     }
-    challenge(desk, request)
 }

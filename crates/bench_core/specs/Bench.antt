@@ -67,15 +67,15 @@ module _ (bench : Bench) where
     reply = a.reply;
   }
 
-  unfoldable pub order : (count : ℕ) (rands : Octets) → BenchAnswer
+  abbrev pub order : (count : ℕ) (rands : Octets) → BenchAnswer
   order count rands = on_desk (desks.order bench.desk count (rands_for count rands) (room_for count))
 
   -- a resync with no AUTS since the last key taken is a bad line
-  unfoldable pub resync : (count : ℕ) (rands : Octets) → BenchAnswer
+  abbrev pub resync : (count : ℕ) (rands : Octets) → BenchAnswer
   resync count rands = cond bench.failed (on_desk (desks.resync bench.desk count (rands_for count rands) (room_for count))) bad_line
 
   -- another word before the first key taken is a bad line
-  unfoldable pub once_keyed : BenchAnswer → BenchAnswer
+  abbrev pub once_keyed : BenchAnswer → BenchAnswer
   once_keyed rest = cond bench.keyed rest bad_line
 
   -- what a command does, by its word

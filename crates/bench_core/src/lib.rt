@@ -1,25 +1,24 @@
 // The bench line by line (document 01: 'The bench program').
 #![tactic(auto)]
 
-ghost use Rattle.std.specs.Prelude.{true, false, ◌||◌, ◌⊎◌, ◌≡◌, ◌≤◌};
+ghost use Rattle.std.specs.Prelude.{◌≡◌};
 ghost use Rattle.functions.specs.Challenge.{keys_of};
-ghost use Rattle.aka.specs.Layout.{most_vectors};
-ghost use Rattle.bench_reader.specs.Views.{command_of, word_of};
-ghost use Rattle.bench_writer.specs.Views.{reply_of};
+ghost use Rattle.bench_reader.specs.Views.{command_of};
 ghost use Rattle.bench_desk.specs.Desk as desks;
 ghost use Rattle.bench_desk.specs.Views.{desk_answer_of, desk_of};
 ghost use Rattle.bench_core.specs.Bench as spec;
 ghost use Rattle.bench_core.specs.Views.{bench_answer_of, bench_of, stepped_of};
 
 use bench_desk::{Desk, DeskAnswer};
-use bench_reader::{Command, Word};
+use bench_reader::{Command, Rands};
 use bench_writer::Reply;
 use functions::Keys;
 
 // The octets of a batch of the most vectors.
 const BATCH_SIZE: usize = aka::VECTOR_SIZE * (aka::MOST_VECTORS as usize);
 
-// `keyed`: a key was taken. `failed`: since then a synchronisation failure brought an AUTS; the desk has it.
+// `keyed`: a key was taken. `failed`: since then a synchronisation failure brought an AUTS; the desk has it. The desk is no Option, since
+// `step` takes a bench with any desk, before the first key too.
 #[derive(Clone, Copy, Drop)]
 pub struct Bench {
     pub keyed: bool,
@@ -75,7 +74,7 @@ fn key(bench: Bench, keys: Keys, amf: [u8; aka::AMF_SIZE]) -> BenchAnswer
     if !functions::admits(bench_desk::EDITION, keys) {
         return BenchAnswer {
             bench,
-            reply: Reply::Refused(1),
+            reply: Reply::Refused(aka::Refusal::Invalid.number() as u64),
         };
     }
     let next = Bench {
@@ -89,131 +88,60 @@ fn key(bench: Bench, keys: Keys, amf: [u8; aka::AMF_SIZE]) -> BenchAnswer
     }
 }
 
-// Whether there is an AUTS: there was one before, or the step that answered so brought one.
-#[tactic(auto, unfolding(crate::specs::Bench::is_sync))]
-fn failed_after(failed: bool, reply: Reply) -> bool
-    ensures { result ≡ (failed || spec.is_sync (reply_of reply)) }
-{
-    let Reply::Sync = reply else {
-        return failed;
-    };
-    true
-}
-
-// The bench after a step of the desk.
-#[tactic(auto, unfolding(crate::specs::Bench::on_desk))]
+// The bench after a step of the desk: there is an AUTS if there was one before, or if the step that answered so brought one.
+#[tactic(auto, unfolding(crate::specs::Bench::on_desk, crate::specs::Bench::is_sync))]
 fn on_desk(bench: Bench, a: DeskAnswer) -> BenchAnswer
     ensures { bench_answer_of result ≡ spec.on_desk (bench_of bench) (desk_answer_of a) }
 {
-    let desk = a.desk;
-    let reply = a.reply;
-    let next = Bench {
-        keyed: bench.keyed,
-        failed: failed_after(bench.failed, reply),
-        desk,
-    };
-    BenchAnswer { bench: next, reply }
-}
-
-// For how many vectors RANDs and room are lent: a count above the most is refused, whatever is lent.
-fn lent_for(count: u8) -> usize
-    ensures { (result ≤ most_vectors) × ((result ≡ count) ⊎ ((result ≡ most_vectors) × (most_vectors ≤ count))) }
-{
-    if aka::MOST_VECTORS < count as u64 {
-        return aka::MOST_VECTORS as usize;
+    let failed = bench.failed || matches!(a.reply, Reply::Sync);
+    BenchAnswer {
+        bench: Bench {
+            failed,
+            desk: a.desk,
+            ..bench
+        },
+        reply: a.reply,
     }
-    count as usize
 }
 
-fn order(desk: Desk, count: u8, rands: [u8; bench_reader::RANDS_SIZE]) -> DeskAnswer
-    ensures { desk_answer_of result ≡ desks.order (desk_of desk) count (spec.rands_for count rands) (spec.room_for count) }
+// An order, and a resync with the last AUTS. They differ in the call; to pass that as a closure would take more lines than it saves.
+fn order(desk: Desk, rands: Rands) -> DeskAnswer
+    ensures { desk_answer_of result
+        ≡ desks.order (desk_of desk) rands.count (spec.rands_for rands.count rands.octets) (spec.room_for rands.count) }
 {
-    let n = lent_for(count);
     let mut batch = [0u8; BATCH_SIZE];
-    bench_supply::order(
-        desk,
-        count,
-        &rands[..aka::RAND_SIZE * n],
-        &mut batch[..aka::VECTOR_SIZE * n],
-    )
+    let room = &mut batch[..aka::VECTOR_SIZE * rands.count as usize];
+    bench_supply::order(desk, rands.count, rands.given(), room)
 }
 
-fn resync(desk: Desk, count: u8, rands: [u8; bench_reader::RANDS_SIZE]) -> DeskAnswer
-    ensures { desk_answer_of result ≡ desks.resync (desk_of desk) count (spec.rands_for count rands) (spec.room_for count) }
+fn resync(desk: Desk, rands: Rands) -> DeskAnswer
+    ensures { desk_answer_of result
+        ≡ desks.resync (desk_of desk) rands.count (spec.rands_for rands.count rands.octets) (spec.room_for rands.count) }
 {
-    let n = lent_for(count);
     let mut batch = [0u8; BATCH_SIZE];
-    bench_supply::resync(
-        desk,
-        count,
-        &rands[..aka::RAND_SIZE * n],
-        &mut batch[..aka::VECTOR_SIZE * n],
-    )
+    let room = &mut batch[..aka::VECTOR_SIZE * rands.count as usize];
+    bench_supply::resync(desk, rands.count, rands.given(), room)
 }
 
-// A resync with no AUTS since the last key taken is a bad line.
-#[tactic(auto, unfolding(crate::specs::Bench::resync))]
-fn answer_resync(bench: Bench, count: u8, rands: [u8; bench_reader::RANDS_SIZE]) -> BenchAnswer
-    ensures { bench_answer_of result ≡ spec.resync (bench_of bench) count rands }
+// What a command does. Before the first key taken, key alone does anything; a resync wants an AUTS since then.
+#[tactic(auto, unfolding(crate::specs::Bench::answer_to, bench_reader::specs::Commands::alone, bench_reader::specs::Commands::put_command))]
+fn answer_to(bench: Bench, command: Option<Command>) -> BenchAnswer
+    ensures { bench_answer_of result ≡ spec.answer_to (bench_of bench) (command_of command) (command_of command).word }
 {
-    if !bench.failed {
-        return bad_line(bench);
+    match command {
+        None => bad_line(bench),
+        Some(Command::Key { keys, amf }) => key(bench, keys, amf),
+        Some(_) if !bench.keyed => bad_line(bench),
+        Some(Command::Order(rands)) => on_desk(bench, order(bench.desk, rands)),
+        Some(Command::Ask) => on_desk(bench, bench_ask::ask(bench.desk)),
+        Some(Command::Put { seqhe, next }) => on_desk(
+            bench,
+            bench_desk::put(bench.desk, seqhe, next),
+        ),
+        Some(Command::Resync(_)) if !bench.failed => bad_line(bench),
+        Some(Command::Resync(rands)) => on_desk(bench, resync(bench.desk, rands)),
+        Some(Command::Show) => on_desk(bench, bench_desk::show(bench.desk)),
     }
-    let desk = bench.desk;
-    on_desk(bench, resync(desk, count, rands))
-}
-
-// A key line takes its keys from the command.
-fn answer_key(bench: Bench, c: Command) -> BenchAnswer
-    ensures { bench_answer_of result ≡ spec.key (bench_of bench) (record { set = c.set; k = c.k; opc = c.opc }) c.amf }
-{
-    let k = c.k;
-    let opc = c.opc;
-    let amf = c.amf;
-    key(bench, Keys { set: c.set, k, opc }, amf)
-}
-
-// Once a key was taken, every word counts.
-#[tactic(auto, unfolding(crate::specs::Bench::answer_to, crate::specs::Bench::once_keyed, crate::specs::Bench::order))]
-fn answer_keyed(bench: Bench, c: Command) -> BenchAnswer
-    requires { bench.keyed ≡ true }
-    ensures { bench_answer_of result ≡ spec.answer_to (bench_of bench) (command_of c) (word_of c.word) }
-{
-    let word = c.word;
-    let rands = c.rands;
-    let desk = bench.desk;
-    match word {
-        Word::Bad => bad_line(bench),
-        Word::Key => answer_key(bench, c),
-        Word::Order => on_desk(bench, order(desk, c.count, rands)),
-        Word::Ask => on_desk(bench, bench_ask::ask(desk)),
-        Word::Put => on_desk(bench, bench_desk::put(desk, c.seqhe, c.next)),
-        Word::Resync => answer_resync(bench, c.count, rands),
-        Word::Show => on_desk(bench, bench_desk::show(desk)),
-    }
-}
-
-// Before that, key alone does.
-#[tactic(auto, unfolding(crate::specs::Bench::answer_to, crate::specs::Bench::once_keyed))]
-fn answer_unkeyed(bench: Bench, c: Command) -> BenchAnswer
-    requires { bench.keyed ≡ false }
-    ensures { bench_answer_of result ≡ spec.answer_to (bench_of bench) (command_of c) (word_of c.word) }
-{
-    let word = c.word;
-    let Word::Key = word else {
-        return bad_line(bench);
-    };
-    answer_key(bench, c)
-}
-
-// What a command does.
-fn answer_to(bench: Bench, c: Command) -> BenchAnswer
-    ensures { bench_answer_of result ≡ spec.answer_to (bench_of bench) (command_of c) (word_of c.word) }
-{
-    if !bench.keyed {
-        return answer_unkeyed(bench, c);
-    }
-    answer_keyed(bench, c)
 }
 
 // One line of any bytes and any length: the bench after it, its answer at the front of `out`, and the length of the answer. Where `out` has
@@ -226,10 +154,8 @@ pub fn step(bench: Bench, line: &[u8], out: &mut [u8]) -> Stepped
         return Stepped { bench, size: 0 };
     }
     let answer = answer_to(bench, bench_reader::read(line));
-    let next = answer.bench;
-    let reply = answer.reply;
     Stepped {
-        bench: next,
-        size: bench_writer::write(reply, out),
+        bench: answer.bench,
+        size: bench_writer::write(answer.reply, out),
     }
 }

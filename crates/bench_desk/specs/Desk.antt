@@ -1,6 +1,6 @@
 -- The desk: one card, one centre record and one node, and what goes between them at an order, an ask and a resync.
 -- Document 01, 'The bench program'. Assumes nothing: these are definitions.
-use Rattle.std.specs.Prelude.{ℕ, ◌&&◌, cond, eqb, ltb, leb}
+use Rattle.std.specs.Prelude.{ℕ, Option, Some, None, ◌&&◌, cond, eqb, ltb, leb}
 use Rattle.octets.specs.Octets.{Octets, zeros, decode}
 use Rattle.functions.specs.Sets.{sets}
 use Rattle.aka.specs.Functions.{Keys}
@@ -51,6 +51,10 @@ refused_by desk number = record { desk = desk; reply = replies.refused number }
 -- a refusal by its number, 0 being none; else what follows
 unfoldable pub refused_or : Desk → (number : ℕ) → DeskAnswer → DeskAnswer
 refused_or desk number rest = cond (eqb number 0) rest (refused_by desk number)
+
+-- the number where there is a refusal
+abbrev pub given_number : ℕ → Option ℕ
+given_number number = cond (eqb number 0) None (Some number)
 
 -- ---- what an order, a resync and an ask print
 

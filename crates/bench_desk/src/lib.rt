@@ -7,7 +7,7 @@ ghost use Rattle.aka.specs.Vlr.{refusal_of};
 ghost use Rattle.usim_record.specs.Views.{usim_of};
 ghost use Rattle.auc_record.specs.Views.{auc_of};
 ghost use Rattle.vlr_record.specs.Views.{outcome_of, vlr_of};
-ghost use Rattle.bench_desk.specs.Desk.{new_desk, put as put_of, refused_by, show as show_of, with_counters, with_records};
+ghost use Rattle.bench_desk.specs.Desk.{given_number, new_desk, put as put_of, refused_by, show as show_of, with_counters, with_records};
 ghost use Rattle.bench_desk.specs.Views.{desk_answer_of, desk_of};
 
 use auc::Auc;
@@ -55,14 +55,11 @@ pub fn new(keys: Keys, amf: [u8; aka::AMF_SIZE]) -> Desk
 pub fn with_records(desk: Desk, usim: Usim, auc: Auc, vlr: Vlr) -> Desk
     ensures { desk_of result ≡ with_records (desk_of desk) (usim_of usim) (auc_of auc) (vlr_of vlr) }
 {
-    let rand = desk.rand;
-    let auts = desk.auts;
     Desk {
         usim,
         auc,
         vlr,
-        rand,
-        auts,
+        ..desk
     }
 }
 
@@ -77,15 +74,13 @@ pub fn refused(desk: Desk, number: u8) -> DeskAnswer
     }
 }
 
-// The node's refusal number, 0 for none.
-pub fn node_refusal(outcome: Outcome) -> u8
-    ensures { result ≡ refusal_of (outcome_of outcome) }
+// The number of the node's refusal. A number of 0 is no refusal.
+pub fn node_refusal(outcome: Outcome) -> Option<u8>
+    ensures { result ≡ given_number (refusal_of (outcome_of outcome)) }
 {
     match outcome {
-        Outcome::Done => 0,
-        Outcome::Passed => 0,
-        Outcome::Cause(number) => 0,
-        Outcome::Refused(number) => number,
+        Outcome::Refused(number) if number != 0 => Some(number),
+        _ => None,
     }
 }
 
@@ -94,23 +89,12 @@ pub fn node_refusal(outcome: Outcome) -> u8
 fn with_counters(desk: Desk, seqhe: u64, next: u8) -> Desk
     ensures { desk_of result ≡ with_counters (desk_of desk) seqhe next }
 {
-    let usim = desk.usim;
-    let vlr = desk.vlr;
-    let auc = desk.auc;
-    let keys = auc.keys;
-    let amf = auc.amf;
-    with_records(
-        desk,
-        usim,
-        Auc {
-            edition: auc.edition,
-            keys,
-            amf,
-            seqhe,
-            next,
-        },
-        vlr,
-    )
+    let auc = Auc {
+        seqhe,
+        next,
+        ..desk.auc
+    };
+    with_records(desk, desk.usim, auc, desk.vlr)
 }
 
 // Another SEQ_HE and next index, within their ranges.
@@ -118,13 +102,9 @@ fn with_counters(desk: Desk, seqhe: u64, next: u8) -> Desk
 pub fn put(desk: Desk, seqhe: u64, next: u64) -> DeskAnswer
     ensures { desk_answer_of result ≡ put_of (desk_of desk) seqhe next }
 {
-    let auc = desk.auc;
-    let m = editions::row(auc.edition);
-    if m.limit < seqhe {
-        return refused(desk, 1);
-    }
-    if m.indices <= next {
-        return refused(desk, 1);
+    let row = editions::row(desk.auc.edition);
+    if row.limit < seqhe || row.indices <= next {
+        return refused(desk, aka::Refusal::Invalid.number());
     }
     DeskAnswer {
         desk: with_counters(desk, seqhe, next as u8),
@@ -138,10 +118,8 @@ pub fn show(desk: Desk) -> DeskAnswer
     ensures { desk_answer_of result ≡ show_of (desk_of desk) }
 {
     let auc = desk.auc;
-    let usim = desk.usim;
-    let places = usim.places;
-    let seqms = usim_record::places::highest(places);
-    let index = usim_record::places::lowest_index(places, seqms);
+    let seqms = usim_record::places::highest(desk.usim.places);
+    let index = usim_record::places::lowest_index(desk.usim.places, seqms);
     DeskAnswer {
         desk,
         reply: Reply::Shown(auc.seqhe, auc.next as u64, seqms, index as u64),

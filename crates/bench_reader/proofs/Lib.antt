@@ -1,5 +1,5 @@
 pub mod Choices
-pub mod Rands
+pub mod RandFields
 pub mod KeyForms
 pub mod BatchForms
 pub mod PutForms

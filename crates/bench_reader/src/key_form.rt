@@ -1,9 +1,11 @@
 // A key line: `key S K OPC AMF`.
-ghost use Rattle.std.specs.Prelude.{◌≡◌};
+ghost use Rattle.std.specs.Prelude.{Some, None, cond, ◌≡◌};
+ghost use Rattle.fields.specs.Fields.{is_hex_field, octets_in};
 ghost use Rattle.bench_reader.specs.Commands.{read_key};
 ghost use Rattle.bench_reader.specs.Views.{command_of};
 
-use crate::{Command, Word};
+use crate::Command;
+use functions::Keys;
 
 // The length of a field of K or OPc: a space and two digits for each octet; and of AMF.
 const KEY_FIELD: usize = 1 + 2 * aka::KEY_SIZE;
@@ -21,41 +23,34 @@ const AMF: usize = OPC + KEY_FIELD;
 
 const KEY_LINE: usize = AMF + AMF_FIELD;
 
+// The octets of the hex field at a place of the line.
+fn octets<const N: usize>(line: &[u8], at: usize) -> Option<[u8; N]>
+    ensures { result ≡ cond (is_hex_field N at line.now) (Some (octets_in N at line.now)) None }
+{
+    let mut out = [0u8; N];
+    if !fields::hex_field(line, at, &mut out) {
+        return None;
+    }
+    Some(out)
+}
+
 #[tactic(auto, using(crate::proofs::KeyForms::no_key_forms))]
-pub fn read_key(line: &[u8]) -> Command
+pub fn read_key(line: &[u8]) -> Option<Command>
     ensures { command_of result ≡ read_key line.now }
 {
     if line.len() != KEY_LINE {
-        return crate::word_alone(Word::Bad);
+        return None;
     }
-    let set = line[SET];
-    if set < b'0' {
-        return crate::word_alone(Word::Bad);
-    }
-    if b'9' < set {
-        return crate::word_alone(Word::Bad);
-    }
-    let mut k = [0u8; aka::KEY_SIZE];
-    if !fields::hex_field(line, K, &mut k) {
-        return crate::word_alone(Word::Bad);
-    }
-    let mut opc = [0u8; aka::KEY_SIZE];
-    if !fields::hex_field(line, OPC, &mut opc) {
-        return crate::word_alone(Word::Bad);
-    }
-    let mut amf = [0u8; aka::AMF_SIZE];
-    if !fields::hex_field(line, AMF, &mut amf) {
-        return crate::word_alone(Word::Bad);
-    }
-    Command {
-        word: Word::Key,
-        set: set - b'0',
+    let digit @ b'0'..=b'9' = line[SET] else {
+        return None;
+    };
+    let k = octets(line, K)?;
+    let opc = octets(line, OPC)?;
+    let amf = octets(line, AMF)?;
+    let keys = Keys {
+        set: digit - b'0',
         k,
         opc,
-        amf,
-        count: 0,
-        rands: [0; crate::RANDS_SIZE],
-        seqhe: 0,
-        next: 0,
-    }
+    };
+    Some(Command::Key { keys, amf })
 }

@@ -1,10 +1,10 @@
 // A put line: `put SEQHE NEXT`.
-ghost use Rattle.std.specs.Prelude.{cond, ◌≡◌, ◌≤◌, length};
+ghost use Rattle.std.specs.Prelude.{Some, None, cond, ◌≡◌, ◌≤◌, length};
 ghost use Rattle.fields.specs.Fields.{decimal};
-ghost use Rattle.bench_reader.specs.Commands.{is_number, put_command, read_put, seqhe_at};
+ghost use Rattle.bench_reader.specs.Commands.{is_number, read_put, seqhe_at};
 ghost use Rattle.bench_reader.specs.Views.{command_of};
 
-use crate::{Command, Word};
+use crate::Command;
 
 // The place of SEQHE, and the most digits of the two numbers.
 const SEQHE: usize = 4;
@@ -14,7 +14,11 @@ const SEQHE_DIGITS: usize = 13;
 const NEXT_DIGITS: usize = 2;
 
 // Reads a decimal number of at most so many digits.
-#[tactic(auto, using(crate::proofs::PutForms::too_long, crate::proofs::PutForms::short_enough), unfolding(fields::specs::Fields::number_in))]
+#[tactic(
+    auto,
+    using(crate::proofs::PutForms::too_long, crate::proofs::PutForms::short_enough),
+    unfolding(fields::specs::Fields::number_in)
+)]
 fn number(text: &[u8], most: usize) -> Option<u64>
     ensures { result ≡ cond (is_number most text.now) (Some (decimal text.now)) None }
 {
@@ -24,38 +28,17 @@ fn number(text: &[u8], most: usize) -> Option<u64>
     fields::read_number(text)
 }
 
-#[tactic(auto, unfolding(crate::specs::Commands::put_command))]
-fn put_numbers(seqhe: u64, next: u64) -> Command
-    ensures { command_of result ≡ put_command seqhe next }
-{
-    Command {
-        word: Word::Put,
-        set: 0,
-        k: [0; aka::KEY_SIZE],
-        opc: [0; aka::KEY_SIZE],
-        amf: [0; aka::AMF_SIZE],
-        count: 0,
-        rands: [0; crate::RANDS_SIZE],
-        seqhe,
-        next,
-    }
-}
-
 // Reads a line that begins with "put ".
 #[tactic(auto, using(crate::proofs::PutForms::put_forms))]
-pub fn read_put(line: &[u8]) -> Command
+pub fn read_put(line: &[u8]) -> Option<Command>
     requires { seqhe_at ≤ length line.now }
     ensures { command_of result ≡ read_put line.now }
 {
     let end = fields::field_end(line, SEQHE);
     if end == line.len() {
-        return crate::word_alone(Word::Bad);
+        return None;
     }
-    let seqhe = number(&line[SEQHE..end], SEQHE_DIGITS);
-    let start = end + 1;
-    let next = number(&line[start..], NEXT_DIGITS);
-    match (seqhe, next) {
-        (Some(seqhe), Some(next)) => put_numbers(seqhe, next),
-        _ => crate::word_alone(Word::Bad),
-    }
+    let seqhe = number(&line[SEQHE..end], SEQHE_DIGITS)?;
+    let next = number(&line[end + 1..], NEXT_DIGITS)?;
+    Some(Command::Put { seqhe, next })
 }

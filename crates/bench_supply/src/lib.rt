@@ -3,30 +3,26 @@
 
 ghost use Rattle.std.specs.Prelude.{◌≡◌};
 ghost use Rattle.octets.specs.Octets.{Octets};
-ghost use Rattle.functions.specs.Sets.{sets};
 ghost use Rattle.aka.specs.Auc as centre;
-ghost use Rattle.aka.specs.Editions.{editions};
-ghost use Rattle.auc_record.specs.Views.{answer_of as auc_answer_of, auc_of, outcome_of as auc_outcome_of};
+ghost use Rattle.auc_record.specs.Views.{answer_of as auc_answer_of, outcome_of as auc_outcome_of};
 ghost use Rattle.vlr_record.specs.Views.{answer_of as vlr_answer_of};
 ghost use Rattle.bench_writer.specs.Views.{reply_of};
-ghost use Rattle.bench_desk.specs.Desk.{order as order_of, order_answer, resync as resync_of, resync_answer, resync_reply, with_batch};
+ghost use Rattle.bench_desk.specs.Desk.{given_number, order as order_of, order_answer, resync as resync_of, resync_answer};
+ghost use Rattle.bench_desk.specs.Desk.{resync_reply, with_batch};
 ghost use Rattle.bench_desk.specs.Views.{desk_answer_of, desk_of};
 
-use auc::Auc;
 use bench_desk::{Desk, DeskAnswer};
 use bench_writer::Reply;
 use vlr::Kind;
 
-// The centre's refusal number, 0 for none.
-fn centre_refusal(outcome: auc::Outcome) -> u8
-    ensures { result ≡ centre.refusal_of (auc_outcome_of outcome) }
+// The number of the centre's refusal. A number of 0 is no refusal.
+fn centre_refusal(outcome: auc::Outcome) -> Option<u8>
+    ensures { result ≡ given_number (centre.refusal_of (auc_outcome_of outcome)) }
 {
     match outcome {
-        auc::Outcome::Given => 0,
-        auc::Outcome::Kept => 0,
-        auc::Outcome::Reset => 0,
-        auc::Outcome::Refused(number) => number,
-        auc::Outcome::Repeated(i, j) => 4,
+        auc::Outcome::Refused(number) if number != 0 => Some(number),
+        auc::Outcome::Repeated(_, _) => Some(aka::Refusal::SameRand.number()),
+        _ => None,
     }
 }
 
@@ -36,21 +32,14 @@ fn with_batch(desk: Desk, a: auc::Answer, v: vlr::Reply, reply: Reply) -> DeskAn
     ensures { (batch : Octets) → desk_answer_of result
         ≡ with_batch (desk_of desk) (auc_answer_of a batch) (vlr_answer_of v) (reply_of reply) }
 {
-    let from_centre = a.outcome;
-    let from_node = v.outcome;
-    let first = centre_refusal(from_centre);
-    let second = bench_desk::node_refusal(from_node);
-    let usim = desk.usim;
-    let auc = a.auc;
-    let vlr = v.vlr;
-    let next = bench_desk::with_records(desk, usim, auc, vlr);
-    if first != 0 {
+    if let Some(first) = centre_refusal(a.outcome) {
         return bench_desk::refused(desk, first);
     }
-    if second != 0 {
+    if let Some(second) = bench_desk::node_refusal(v.outcome) {
         return bench_desk::refused(desk, second);
     }
-    DeskAnswer { desk: next, reply }
+    let desk = bench_desk::with_records(desk, desk.usim, a.auc, v.vlr);
+    DeskAnswer { desk, reply }
 }
 
 // An order: the vectors given go to the node by Store.
@@ -59,12 +48,9 @@ pub fn order(desk: Desk, count: u8, rands: &[u8], batch: &mut [u8]) -> DeskAnswe
     ensures answer { desk_answer_of result ≡ order_of (desk_of desk) count rands.now batch.old }
     ensures batch { batch.new ≡ (order_answer (desk_of desk) count rands.now batch.old).batch }
 {
-    let auc = desk.auc;
-    let vlr = desk.vlr;
-    let a = auc::order(auc, count as u64, rands, batch);
-    let v = vlr::store(vlr, Kind::Vector, a.n as u64, batch);
-    let next = v.vlr;
-    with_batch(desk, a, v, Reply::Stored(a.n as u64, next.held as u64))
+    let a = auc::order(desk.auc, count as u64, rands, batch);
+    let v = vlr::store(desk.vlr, Kind::Vector, a.n as u64, batch);
+    with_batch(desk, a, v, Reply::Stored(a.n as u64, v.vlr.held as u64))
 }
 
 // What a resync prints: kept or reset.
@@ -77,23 +63,8 @@ fn resync_reply(outcome: auc::Outcome, n: u64, held: u64) -> Reply
         auc::Outcome::Kept => Reply::Kept(n, held),
         auc::Outcome::Reset => Reply::Reset(n, held),
         auc::Outcome::Refused(number) => Reply::Refused(number as u64),
-        auc::Outcome::Repeated(i, j) => Reply::Refused(4),
+        auc::Outcome::Repeated(_, _) => Reply::Refused(aka::Refusal::SameRand.number() as u64),
     }
-}
-
-// The centre's answer to RAND and AUTS as the desk has them.
-fn resynchronise(
-    auc: Auc,
-    count: u8,
-    rand: [u8; aka::RAND_SIZE],
-    auts: [u8; aka::AUTS_SIZE],
-    rands: &[u8],
-    batch: &mut [u8],
-) -> auc::Answer
-    ensures { auc_answer_of result batch.new
-        ≡ centre.resync editions sets (auc_of auc) count rands.now batch.old rand auts }
-{
-    auc::resynchronise(auc, count as u64, &rand, &auts, rands, batch)
 }
 
 // A resync with the last AUTS and its RAND: the vectors given go to the node by Renew.
@@ -102,18 +73,8 @@ pub fn resync(desk: Desk, count: u8, rands: &[u8], batch: &mut [u8]) -> DeskAnsw
     ensures answer { desk_answer_of result ≡ resync_of (desk_of desk) count rands.now batch.old }
     ensures batch { batch.new ≡ (resync_answer (desk_of desk) count rands.now batch.old).batch }
 {
-    let auc = desk.auc;
-    let vlr = desk.vlr;
-    let rand = desk.rand;
-    let auts = desk.auts;
-    let a = resynchronise(auc, count, rand, auts, rands, batch);
-    let v = vlr::renew(vlr, Kind::Vector, a.n as u64, batch);
-    let next = v.vlr;
-    let outcome = a.outcome;
-    with_batch(
-        desk,
-        a,
-        v,
-        resync_reply(outcome, a.n as u64, next.held as u64),
-    )
+    let a = auc::resynchronise(desk.auc, count as u64, &desk.rand, &desk.auts, rands, batch);
+    let v = vlr::renew(desk.vlr, Kind::Vector, a.n as u64, batch);
+    let reply = resync_reply(a.outcome, a.n as u64, v.vlr.held as u64);
+    with_batch(desk, a, v, reply)
 }

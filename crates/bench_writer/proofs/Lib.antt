@@ -1,3 +1,2 @@
-pub mod PlacingLaws
+pub mod Texts
 pub mod DecimalLaws
-pub mod Front

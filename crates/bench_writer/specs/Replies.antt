@@ -91,11 +91,11 @@ card_word = ascii " card "
 -- ---- texts
 
 -- a word and a number
-unfoldable pub labelled : (word : List ℕ) (n : ℕ) → List ℕ
+abbrev pub labelled : (word : List ℕ) (n : ℕ) → List ℕ
 labelled word n = word ++ decimal_text n
 
 -- two of them
-unfoldable pub labelled_two : (word : List ℕ) (n : ℕ) (word' : List ℕ) (m : ℕ) → List ℕ
+abbrev pub labelled_two : (word : List ℕ) (n : ℕ) (word' : List ℕ) (m : ℕ) → List ℕ
 labelled_two word n word' m = labelled word n ++ labelled word' m
 
 unfoldable pub text_of : Reply → List ℕ

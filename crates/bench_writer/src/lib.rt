@@ -1,13 +1,13 @@
 // The answers of the bench: what they can be, and how they are written.
 #![tactic(auto)]
 
-mod parts;
-mod texts;
+mod text;
 
-ghost use Rattle.std.specs.Prelude.{◌≡◌, ◌≤◌, length};
-ghost use Rattle.bench_writer.specs.Replies.{room, text_of, written};
-ghost use Rattle.bench_writer.specs.Placing.{Placed};
+ghost use Rattle.std.specs.Prelude.{◌≡◌, ◌++◌, ◌≤◌, length, take};
+ghost use Rattle.bench_writer.specs.Replies.{held_word, labelled, labelled_two, newline, refused_word, text_of, written};
 ghost use Rattle.bench_writer.specs.Views.{reply_of, written_of};
+
+use text::Text;
 
 // A buffer of so many bytes has room for every text.
 pub const ROOM: usize = 96;
@@ -30,38 +30,75 @@ pub enum Reply {
     Shown(u64, u64, u64, u64),
 }
 
-// Puts the text at the front of a buffer with room for it.
-#[tactic(auto, unfolding(crate::specs::Replies::text_of))]
-fn put_reply(reply: Reply, out: &mut [u8]) -> usize
-    requires { room ≤ length out.old }
-    ensures { Placed out.old 0 (text_of (reply_of reply)) out.new result }
+// What a batch gave: its count, and the vectors held.
+#[tactic(auto, using(crate::proofs::Texts::joined))]
+fn batch(word: &[u8], count: u64, held: u64) -> Text
+    requires { length word.now ≤ length refused_word }
+    ensures { take result.used result.bytes ≡ labelled_two word.now count held_word held ++ newline }
+{
+    Text::new()
+        .put(word)
+        .number(count)
+        .put(b" held ")
+        .number(held)
+        .put(b"\n")
+}
+
+// A word and a number, and nothing else.
+#[tactic(auto, using(crate::proofs::Texts::joined))]
+fn numbered(word: &[u8], number: u64) -> Text
+    requires { length word.now ≤ length refused_word }
+    ensures { take result.used result.bytes ≡ labelled word.now number ++ newline }
+{
+    Text::new().put(word).number(number).put(b"\n")
+}
+
+// The text of an answer.
+#[tactic(auto, using(crate::proofs::Texts::joined), unfolding(crate::specs::Replies::text_of))]
+fn spelled(reply: Reply) -> Text
+    ensures { take result.used result.bytes ≡ text_of (reply_of reply) }
 {
     match reply {
-        Reply::KeyOk => parts::put(out, 0, b"key ok\n"),
-        Reply::PutOk => parts::put(out, 0, b"put ok\n"),
-        Reply::BadLine => parts::put(out, 0, b"bad line\n"),
-        Reply::Stored(count, held) => texts::put_batch(out, b"stored ", count, held),
-        Reply::Kept(count, held) => texts::put_batch(out, b"kept ", count, held),
-        Reply::Reset(count, held) => texts::put_batch(out, b"reset ", count, held),
-        Reply::Pass(sqn, left) => texts::put_pass(out, sqn, left),
-        Reply::Sync => parts::put(out, 0, b"sync\n"),
-        Reply::Mac => parts::put(out, 0, b"mac\n"),
-        Reply::Cause(number) => texts::put_numbered(out, b"cause ", number),
-        Reply::Refused(number) => texts::put_numbered(out, b"refused ", number),
-        Reply::Shown(seqhe, next, seqms, index) => texts::put_records(
-            out, seqhe, next, seqms, index,
-        ),
+        Reply::KeyOk => Text::new().put(b"key ok\n"),
+        Reply::PutOk => Text::new().put(b"put ok\n"),
+        Reply::BadLine => Text::new().put(b"bad line\n"),
+        Reply::Stored(count, held) => batch(b"stored ", count, held),
+        Reply::Kept(count, held) => batch(b"kept ", count, held),
+        Reply::Reset(count, held) => batch(b"reset ", count, held),
+        Reply::Pass(sqn, left) => Text::new()
+            .put(b"pass ")
+            .sqn(sqn)
+            .put(b" left ")
+            .number(left)
+            .put(b"\n"),
+        Reply::Sync => Text::new().put(b"sync\n"),
+        Reply::Mac => Text::new().put(b"mac\n"),
+        Reply::Cause(number) => numbered(b"cause ", number),
+        Reply::Refused(number) => numbered(b"refused ", number),
+        Reply::Shown(seqhe, next, seqms, index) => {
+            let centre = Text::new()
+                .put(b"auc ")
+                .number(seqhe)
+                .put(b" ")
+                .number(next);
+            centre
+                .put(b" card ")
+                .number(seqms)
+                .put(b" ")
+                .number(index)
+                .put(b"\n")
+        }
     }
 }
 
 // Writes the text of `reply` to the front of `out`, and returns its length. Where `out` has less than `ROOM` bytes, it stays as it
 // was, and 0 is returned.
-#[tactic(auto, using(crate::proofs::Front::placed_front), unfolding(crate::specs::Replies::written))]
+#[tactic(auto, using(crate::proofs::Texts::no_room, crate::proofs::Texts::with_room), unfolding(crate::specs::Replies::written))]
 pub fn write(reply: Reply, out: &mut [u8]) -> usize
     ensures { written_of result out.new ≡ written (reply_of reply) out.old }
 {
     if out.len() < ROOM {
         return 0;
     }
-    put_reply(reply, out)
+    octets::copy(spelled(reply).written(), out)
 }

@@ -6,9 +6,8 @@ use Rattle.octets.specs.Octets.{Octets}
 use Rattle.fields.specs.Fields.{is_hex_field, octets_in, read_field_into}
 use Rattle.fields.proofs.FieldLaws.{field_octets}
 use Rattle.aka.specs.Layout.{rand_size}
-use Rattle.bench_reader.specs.Views.{word_of}
 use Rattle.bench_reader.specs.Commands.{rand_field_at, rand_fields, rand_octets}
-use Rattle.bench_reader.proofs.Rands.{missing, one_more, put_rand}
+use Rattle.bench_reader.proofs.RandFields.{missing, one_more, put_rand}
 use Rattle.bench_reader.proofs.BatchForms.{no_rands, rands_read}
 use Rattle.bench_reader.proofs.batch_form.read_rands.Goals as goal
 
@@ -38,14 +37,13 @@ room_size i rands h = simp (length-take, length-drop) (omega arith)
 
 pub loop-i-init : goal.loop-i-init
 unfolding rand_fields rand_octets
-loop-i-init c = record { within = omega arith; size = refl; read = refl; there = refl; octets = refl }
+loop-i-init c = record { size = refl; read = refl; there = refl; octets = refl }
 
 pub returns-then-not-hex_field : goal.returns-then-not-hex_field
 returns-then-not-hex_field c =
     let l = c.loop-i in
-    let size = room_size l.i l.rands (omega arith) in
-    c.word_alone.ensures
-    ∙ no_rands (word_of c.args.word) c.args.count c.args.from c.args.line.now
+    let size = room_size l.i l.octets (omega arith) in
+    λ word. no_rands word c.args.count c.args.from c.args.line.now
     (missing c.args.from c.args.line.now c.args.count l.i (omega arith)
     (sym (said _ c.args.from l.i c.args.line.now size c.hex_field.ensures.answer) ∙ c.if-not-hex_field.true))
 
@@ -54,13 +52,12 @@ loop-i-preserved c =
     let l = c.loop-i in
     let from = c.args.from in
     let line = c.args.line.now in
-    let size = room_size l.i l.rands (omega arith) in
+    let size = room_size l.i l.octets (omega arith) in
     let there = c.if-not-hex_field.false in
     let rand = next_is _ from l.i line size c.hex_field.ensures.answer c.hex_field.ensures.octets there in
     record {
-      within = omega arith;
       size =
-          same_len_mid (rand_size * l.i) (rand_size * l.i + rand_size - rand_size * l.i) l.rands _ c.hex_field.auto.out
+          same_len_mid (rand_size * l.i) (rand_size * l.i + rand_size - rand_size * l.i) l.octets _ c.hex_field.auto.out
           ∙ l.invariant.size;
       read = more from l.i line l.invariant.read (c.hex_field.auto.out ∙ size) rand;
       there = one_more from line l.i l.invariant.there (sym (said _ from l.i line size c.hex_field.ensures.answer) ∙ there);
@@ -71,5 +68,5 @@ pub returns : goal.returns
 returns c =
     let l = c.loop-i in
     let all : l.i ≡ c.args.count = omega arith in
-    rands_read (word_of c.args.word) c.args.count c.args.from c.args.line.now
+    λ word. rands_read word c.args.count c.args.from c.args.line.now
     (rw all at l.invariant.there) (rw all at l.invariant.octets)

@@ -1,5 +1,5 @@
 -- The first i RANDs are there, and their octets are at the front.
-use Rattle.std.proofs.Common.{◌≡◌, ◌*◌, ◌-◌, ◌≤◌, ◌++◌, true, length, drop}
+use Rattle.std.proofs.Common.{◌≡◌, ◌*◌, ◌++◌, true, length, drop}
 use Rattle.octets.specs.Octets.{zeros}
 use Rattle.aka.specs.Layout.{rand_size}
 use Rattle.bench_reader.specs.Commands.{rands_size, rand_fields, rand_octets}
@@ -7,12 +7,8 @@ use Rattle.bench_reader.proofs.batch_form.read_rands.Given as goal
 
 abbrev pub invariant-loop-i : goal.invariant-loop-i
 invariant-loop-i l = record {
-  within : l.i ≤ l.n;
-  size : length l.rands ≡ rands_size;
+  size : length l.octets ≡ rands_size;
   read : length (rand_octets l.i l.from l.line) ≡ rand_size * l.i;
   there : rand_fields l.i l.from l.line ≡ true;
-  octets : l.rands ≡ rand_octets l.i l.from l.line ++ drop (rand_size * l.i) (zeros rands_size);
+  octets : l.octets ≡ rand_octets l.i l.from l.line ++ drop (rand_size * l.i) (zeros rands_size);
 }
-
-abbrev pub decreases-loop-i : goal.decreases-loop-i
-decreases-loop-i l = l.n - l.i

@@ -9,6 +9,7 @@ use native.Mathlib.Numerals.{add-one}
 use native.Mathlib.Omega.{arith}
 use borrow.Author.Tests.{le-leb, lt-leb}
 use borrow.Rule.Slice.PartMut.{put_mid, Post-is}
+use Rattle.std.proofs.lemmas.Bool.Decides.{nat_tests}
 use lib.Dec.{leb}
 use lib.ListN.{length, get_or, drop, get_or-eq_default}
 use lib.Seq.{take_at, drop-append-add, drop-drop}
@@ -76,5 +77,9 @@ module _ (at : ℕ) (line : List ℕ) where
   -- past the end there is none
   pub count_past : length line ≤ at → 0 ≡ count_at at line
   count_past h = count_low (omega (arith, get_or-eq_default line 0 h))
+
+  pub count_most : count_at at line ≤ most_vectors
+  unfolding count_at
+  count_most = grind (arith, nat_tests)
 
 pub ruleset counts = (count_past, count_low, count_high, count_is)
