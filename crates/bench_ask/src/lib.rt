@@ -8,11 +8,12 @@ ghost use Rattle.vlr_record.specs.Views.{answer_of};
 ghost use Rattle.bench_desk.specs.Desk.{ask as ask_of, ask_answer, card_answer, on_verdict, sqn_asked};
 ghost use Rattle.bench_desk.specs.Views.{desk_answer_of, desk_of};
 
-use bench_desk::{Desk, DeskAnswer};
+use bench_desk::Desk;
+use bench_writer::Reply;
 use usim::Verdict;
 
 // The card's challenge, with the RAND and AUTN that the node asked.
-fn challenge(desk: Desk, request: vlr::Reply) -> DeskAnswer
+fn challenge(desk: Desk, request: vlr::Reply) -> (Desk, Reply)
     requires { answer_of request ≡ ask_answer (desk_of desk) }
     ensures { desk_answer_of result
         ≡ on_verdict (desk_of desk) (ask_answer (desk_of desk)).vlr (card_answer (desk_of desk)) (sqn_asked (desk_of desk))
@@ -27,7 +28,7 @@ fn challenge(desk: Desk, request: vlr::Reply) -> DeskAnswer
 
 // One authentication of the card by the node.
 #[tactic(auto, using(bench_desk::proofs::Refusals::refusals), unfolding(bench_desk::specs::Desk::ask, bench_desk::specs::Desk::ask_answer))]
-pub fn ask(desk: Desk) -> DeskAnswer
+pub fn ask(desk: Desk) -> (Desk, Reply)
     ensures { desk_answer_of result ≡ ask_of (desk_of desk) }
 {
     let request = vlr::ask(desk.vlr);

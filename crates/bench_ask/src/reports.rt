@@ -9,7 +9,7 @@ ghost use Rattle.bench_desk.specs.Desk.{after_node, after_reject, after_sync, an
 ghost use Rattle.bench_desk.specs.Views.{desk_answer_of, desk_of};
 ghost use Rattle.bench_ask.specs.Failures.{Failed};
 
-use bench_desk::{Desk, DeskAnswer};
+use bench_desk::Desk;
 use bench_writer::Reply;
 use usim::{Answer, Verdict};
 use vlr::{Outcome, Vlr};
@@ -28,18 +28,18 @@ fn answer_reply(outcome: Outcome, sqn: u64, left: u8) -> Reply
 
 // The desk stays as it was where the node refuses.
 #[tactic(auto, using(bench_desk::proofs::Refusals::refusals), unfolding(bench_desk::specs::Desk::after_node))]
-fn after_node(desk: Desk, outcome: Outcome, next: Desk, reply: Reply) -> DeskAnswer
+fn after_node(desk: Desk, outcome: Outcome, next: Desk, reply: Reply) -> (Desk, Reply)
     ensures { desk_answer_of result ≡ after_node (desk_of desk) (outcome_of outcome) (desk_of next) (reply_of reply) }
 {
     match bench_desk::node_refusal(outcome) {
         Some(number) => bench_desk::refused(desk, number),
-        None => DeskAnswer { desk: next, reply },
+        None => (next, reply),
     }
 }
 
 // A wrong MAC: Reject.
 #[tactic(auto, unfolding(bench_desk::specs::Desk::after_reject))]
-fn reject(desk: Desk, vlr: Vlr) -> DeskAnswer
+fn reject(desk: Desk, vlr: Vlr) -> (Desk, Reply)
     ensures { desk_answer_of result ≡ after_reject (desk_of desk) (node.reject (vlr_of vlr)) }
 {
     let v = vlr::reject(vlr);
@@ -49,7 +49,7 @@ fn reject(desk: Desk, vlr: Vlr) -> DeskAnswer
 
 // A synchronisation failure: Sync hands on RAND with AUTS, and the desk keeps them.
 #[tactic(auto, unfolding(bench_desk::specs::Desk::after_sync))]
-fn sync(desk: Desk, vlr: Vlr, auts: [u8; aka::AUTS_SIZE]) -> DeskAnswer
+fn sync(desk: Desk, vlr: Vlr, auts: [u8; aka::AUTS_SIZE]) -> (Desk, Reply)
     ensures { desk_answer_of result ≡ after_sync (desk_of desk) (node.sync (vlr_of vlr) auts) }
 {
     let v = vlr::sync(vlr, &auts);
@@ -67,7 +67,7 @@ fn sync(desk: Desk, vlr: Vlr, auts: [u8; aka::AUTS_SIZE]) -> DeskAnswer
 
 // A verdict other than acceptance: the node has Sync or Reject, or the card refuses.
 #[tactic(auto, unfolding(bench_desk::specs::Desk::on_verdict))]
-pub fn failure(desk: Desk, vlr: Vlr, answer: Answer) -> DeskAnswer
+pub fn failure(desk: Desk, vlr: Vlr, answer: Answer) -> (Desk, Reply)
     requires { Failed (verdict_of answer.verdict) }
     ensures { (sqn : ℕ) → desk_answer_of result
         ≡ on_verdict (desk_of desk) (vlr_of vlr) (card_answer_of answer) sqn (verdict_of answer.verdict) }
@@ -82,7 +82,7 @@ pub fn failure(desk: Desk, vlr: Vlr, answer: Answer) -> DeskAnswer
 
 // An acceptance: the node has RES, and the card's next record is kept.
 #[tactic(auto, unfolding(bench_desk::specs::Desk::on_verdict, bench_desk::specs::Desk::after_answer))]
-pub fn response(desk: Desk, vlr: Vlr, answer: Answer, sqn: u64) -> DeskAnswer
+pub fn response(desk: Desk, vlr: Vlr, answer: Answer, sqn: u64) -> (Desk, Reply)
     ensures { desk_answer_of result ≡ on_verdict (desk_of desk) (vlr_of vlr) (card_answer_of answer) sqn accepted_of }
 {
     let v = vlr::answer(vlr, &answer.res);

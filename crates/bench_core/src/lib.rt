@@ -9,7 +9,7 @@ ghost use Rattle.bench_desk.specs.Views.{desk_answer_of, desk_of};
 ghost use Rattle.bench_core.specs.Bench as spec;
 ghost use Rattle.bench_core.specs.Views.{bench_answer_of, bench_of, stepped_of};
 
-use bench_desk::{Desk, DeskAnswer};
+use bench_desk::Desk;
 use bench_reader::{Command, Rands};
 use bench_writer::Reply;
 use functions::Keys;
@@ -24,13 +24,6 @@ pub struct Bench {
     pub keyed: bool,
     pub failed: bool,
     pub desk: Desk,
-}
-
-// What a line does: the bench after it, and what it answers.
-#[derive(Clone, Copy, Drop)]
-pub struct BenchAnswer {
-    pub bench: Bench,
-    pub reply: Reply,
 }
 
 // The bench after a line, and the length of its answer.
@@ -57,55 +50,45 @@ pub fn new() -> Bench
 }
 
 #[tactic(auto, unfolding(crate::specs::Bench::bad_line))]
-fn bad_line(bench: Bench) -> BenchAnswer
+fn bad_line(bench: Bench) -> (Bench, Reply)
     ensures { bench_answer_of result ≡ spec.bad_line (bench_of bench) }
 {
-    BenchAnswer {
-        bench,
-        reply: Reply::BadLine,
-    }
+    (bench, Reply::BadLine)
 }
 
 // A key that is taken makes everything new.
 #[tactic(auto, unfolding(crate::specs::Bench::key))]
-fn key(bench: Bench, keys: Keys, amf: [u8; aka::AMF_SIZE]) -> BenchAnswer
+fn key(bench: Bench, keys: Keys, amf: [u8; aka::AMF_SIZE]) -> (Bench, Reply)
     ensures { bench_answer_of result ≡ spec.key (bench_of bench) (keys_of keys) amf }
 {
     if !functions::admits(bench_desk::EDITION, keys) {
-        return BenchAnswer {
-            bench,
-            reply: Reply::Refused(aka::Refusal::Invalid.number() as u64),
-        };
+        return (bench, Reply::Refused(aka::Refusal::Invalid.number() as u64));
     }
     let next = Bench {
         keyed: true,
         failed: false,
         desk: bench_desk::new(keys, amf),
     };
-    BenchAnswer {
-        bench: next,
-        reply: Reply::KeyOk,
-    }
+    (next, Reply::KeyOk)
 }
 
 // The bench after a step of the desk: there is an AUTS if there was one before, or if the step that answered so brought one.
 #[tactic(auto, unfolding(crate::specs::Bench::on_desk, crate::specs::Bench::is_sync))]
-fn on_desk(bench: Bench, a: DeskAnswer) -> BenchAnswer
+fn on_desk(bench: Bench, a: (Desk, Reply)) -> (Bench, Reply)
     ensures { bench_answer_of result ≡ spec.on_desk (bench_of bench) (desk_answer_of a) }
 {
-    let failed = bench.failed || matches!(a.reply, Reply::Sync);
-    BenchAnswer {
-        bench: Bench {
-            failed,
-            desk: a.desk,
-            ..bench
-        },
-        reply: a.reply,
-    }
+    let (desk, reply) = a;
+    let failed = bench.failed || matches!(reply, Reply::Sync);
+    let next = Bench {
+        failed,
+        desk,
+        ..bench
+    };
+    (next, reply)
 }
 
 // An order, and a resync with the last AUTS. They differ in the call; to pass that as a closure would take more lines than it saves.
-fn order(desk: Desk, rands: Rands) -> DeskAnswer
+fn order(desk: Desk, rands: Rands) -> (Desk, Reply)
     ensures { desk_answer_of result
         ≡ desks.order (desk_of desk) rands.count (spec.rands_for rands.count rands.octets) (spec.room_for rands.count) }
 {
@@ -114,7 +97,7 @@ fn order(desk: Desk, rands: Rands) -> DeskAnswer
     bench_supply::order(desk, rands.count, rands.given(), room)
 }
 
-fn resync(desk: Desk, rands: Rands) -> DeskAnswer
+fn resync(desk: Desk, rands: Rands) -> (Desk, Reply)
     ensures { desk_answer_of result
         ≡ desks.resync (desk_of desk) rands.count (spec.rands_for rands.count rands.octets) (spec.room_for rands.count) }
 {
@@ -125,7 +108,7 @@ fn resync(desk: Desk, rands: Rands) -> DeskAnswer
 
 // What a command does. Before the first key taken, key alone does anything; a resync wants an AUTS since then.
 #[tactic(auto, unfolding(crate::specs::Bench::answer_to, bench_reader::specs::Commands::alone, bench_reader::specs::Commands::put_command))]
-fn answer_to(bench: Bench, command: Option<Command>) -> BenchAnswer
+fn answer_to(bench: Bench, command: Option<Command>) -> (Bench, Reply)
     ensures { bench_answer_of result ≡ spec.answer_to (bench_of bench) (command_of command) (command_of command).word }
 {
     match command {
@@ -153,9 +136,9 @@ pub fn step(bench: Bench, line: &[u8], out: &mut [u8]) -> Stepped
     if out.len() < bench_writer::ROOM {
         return Stepped { bench, size: 0 };
     }
-    let answer = answer_to(bench, bench_reader::read(line));
+    let (next, reply) = answer_to(bench, bench_reader::read(line));
     Stepped {
-        bench: answer.bench,
-        size: bench_writer::write(answer.reply, out),
+        bench: next,
+        size: bench_writer::write(reply, out),
     }
 }

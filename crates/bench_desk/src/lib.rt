@@ -19,7 +19,7 @@ use vlr::{Outcome, Vlr};
 // The edition of the bench's records.
 pub const EDITION: u8 = 1;
 
-// `rand` and `auts` are zero when there was no AUTS.
+// `rand` and `auts` are zero when there was no AUTS. They are no Option, since a resync answers such a desk too: from the zeros.
 #[derive(Clone, Copy, Drop)]
 pub struct Desk {
     pub usim: Usim,
@@ -27,13 +27,6 @@ pub struct Desk {
     pub vlr: Vlr,
     pub rand: [u8; aka::RAND_SIZE],
     pub auts: [u8; aka::AUTS_SIZE],
-}
-
-// The desk after a step, and what is answered.
-#[derive(Clone, Copy, Drop)]
-pub struct DeskAnswer {
-    pub desk: Desk,
-    pub reply: Reply,
 }
 
 // Everything new, with keys and AMF.
@@ -63,15 +56,12 @@ pub fn with_records(desk: Desk, usim: Usim, auc: Auc, vlr: Vlr) -> Desk
     }
 }
 
-// A refusal: card, centre and node all stay as before.
+// A refusal: card, centre and node all stay as before. Its number is any that an outcome has.
 #[tactic(auto, unfolding(crate::specs::Desk::refused_by))]
-pub fn refused(desk: Desk, number: u8) -> DeskAnswer
+pub fn refused(desk: Desk, number: u8) -> (Desk, Reply)
     ensures { desk_answer_of result ≡ refused_by (desk_of desk) number }
 {
-    DeskAnswer {
-        desk,
-        reply: Reply::Refused(number as u64),
-    }
+    (desk, Reply::Refused(number as u64))
 }
 
 // The number of the node's refusal. A number of 0 is no refusal.
@@ -99,29 +89,23 @@ fn with_counters(desk: Desk, seqhe: u64, next: u8) -> Desk
 
 // Another SEQ_HE and next index, within their ranges.
 #[tactic(auto, unfolding(crate::specs::Desk::put, crate::specs::Desk::refused_or))]
-pub fn put(desk: Desk, seqhe: u64, next: u64) -> DeskAnswer
+pub fn put(desk: Desk, seqhe: u64, next: u64) -> (Desk, Reply)
     ensures { desk_answer_of result ≡ put_of (desk_of desk) seqhe next }
 {
     let row = editions::row(desk.auc.edition);
     if row.limit < seqhe || row.indices <= next {
         return refused(desk, aka::Refusal::Invalid.number());
     }
-    DeskAnswer {
-        desk: with_counters(desk, seqhe, next as u8),
-        reply: Reply::PutOk,
-    }
+    (with_counters(desk, seqhe, next as u8), Reply::PutOk)
 }
 
 // The counters of centre and card.
 #[tactic(auto, unfolding(crate::specs::Desk::show))]
-pub fn show(desk: Desk) -> DeskAnswer
+pub fn show(desk: Desk) -> (Desk, Reply)
     ensures { desk_answer_of result ≡ show_of (desk_of desk) }
 {
-    let auc = desk.auc;
     let seqms = usim_record::places::highest(desk.usim.places);
     let index = usim_record::places::lowest_index(desk.usim.places, seqms);
-    DeskAnswer {
-        desk,
-        reply: Reply::Shown(auc.seqhe, auc.next as u64, seqms, index as u64),
-    }
+    let reply = Reply::Shown(desk.auc.seqhe, desk.auc.next as u64, seqms, index as u64);
+    (desk, reply)
 }

@@ -11,7 +11,7 @@ ghost use Rattle.bench_desk.specs.Desk.{given_number, order as order_of, order_a
 ghost use Rattle.bench_desk.specs.Desk.{resync_reply, with_batch};
 ghost use Rattle.bench_desk.specs.Views.{desk_answer_of, desk_of};
 
-use bench_desk::{Desk, DeskAnswer};
+use bench_desk::Desk;
 use bench_writer::Reply;
 use vlr::Kind;
 
@@ -28,7 +28,7 @@ fn centre_refusal(outcome: auc::Outcome) -> Option<u8>
 
 // Both records go on; where one side refuses, the desk stays, and the centre's refusal is told first.
 #[tactic(auto, using(bench_desk::proofs::Refusals::refusals), unfolding(bench_desk::specs::Desk::with_batch))]
-fn with_batch(desk: Desk, a: auc::Answer, v: vlr::Reply, reply: Reply) -> DeskAnswer
+fn with_batch(desk: Desk, a: auc::Answer, v: vlr::Reply, reply: Reply) -> (Desk, Reply)
     ensures { (batch : Octets) → desk_answer_of result
         ≡ with_batch (desk_of desk) (auc_answer_of a batch) (vlr_answer_of v) (reply_of reply) }
 {
@@ -38,13 +38,15 @@ fn with_batch(desk: Desk, a: auc::Answer, v: vlr::Reply, reply: Reply) -> DeskAn
     if let Some(second) = bench_desk::node_refusal(v.outcome) {
         return bench_desk::refused(desk, second);
     }
-    let desk = bench_desk::with_records(desk, desk.usim, a.auc, v.vlr);
-    DeskAnswer { desk, reply }
+    (
+        bench_desk::with_records(desk, desk.usim, a.auc, v.vlr),
+        reply,
+    )
 }
 
 // An order: the vectors given go to the node by Store.
 #[tactic(auto, using(crate::proofs::Batches::order_is), unfolding(bench_desk::specs::Desk::order_answer))]
-pub fn order(desk: Desk, count: u8, rands: &[u8], batch: &mut [u8]) -> DeskAnswer
+pub fn order(desk: Desk, count: u8, rands: &[u8], batch: &mut [u8]) -> (Desk, Reply)
     ensures answer { desk_answer_of result ≡ order_of (desk_of desk) count rands.now batch.old }
     ensures batch { batch.new ≡ (order_answer (desk_of desk) count rands.now batch.old).batch }
 {
@@ -69,7 +71,7 @@ fn resync_reply(outcome: auc::Outcome, n: u64, held: u64) -> Reply
 
 // A resync with the last AUTS and its RAND: the vectors given go to the node by Renew.
 #[tactic(auto, using(crate::proofs::Batches::resync_is), unfolding(bench_desk::specs::Desk::resync_answer))]
-pub fn resync(desk: Desk, count: u8, rands: &[u8], batch: &mut [u8]) -> DeskAnswer
+pub fn resync(desk: Desk, count: u8, rands: &[u8], batch: &mut [u8]) -> (Desk, Reply)
     ensures answer { desk_answer_of result ≡ resync_of (desk_of desk) count rands.now batch.old }
     ensures batch { batch.new ≡ (resync_answer (desk_of desk) count rands.now batch.old).batch }
 {

@@ -13,7 +13,7 @@ use text::Text;
 pub const ROOM: usize = 96;
 
 // What the numbers are: count stored and vectors held; the accepted SQN and vectors left; the number of a cause or of a refusal; SEQ_HE,
-// next index, SEQ_MS and its index.
+// next index, SEQ_MS and its index. A caller may have any number written, so a refusal has its number and no name.
 #[derive(Clone, Copy, Drop)]
 pub enum Reply {
     KeyOk,
