@@ -6,6 +6,7 @@ ghost use Rattle.aka.specs.Vlr as spec;
 ghost use Rattle.vlr_places.specs.Views.{kind_of};
 ghost use Rattle.vlr_record.specs.Views.{answer_of, vlr_of};
 
+use vlr_places::Batch;
 pub use vlr_places::Kind;
 pub use vlr_record::{Outcome, Reply, State, Vlr, is_valid, new};
 use vlr_refusals::{
@@ -13,8 +14,8 @@ use vlr_refusals::{
     timeout_refusal,
 };
 use vlr_steps::{
-    no_octets, oldest_out, pass_if, queued, request, res_right, resync_request, to_idle,
-    unless_refused,
+    answered, no_octets, oldest_out, pass_if, queued, refused, request, res_right, resync_request,
+    to_idle,
 };
 
 // Store (not in Resyncing) adds a batch behind.
@@ -22,11 +23,15 @@ use vlr_steps::{
 pub fn store(vlr: Vlr, kind: Kind, count: u64, batch: &[u8]) -> Reply
     ensures { answer_of result ≡ spec.store (vlr_of vlr) (kind_of kind) count batch.now }
 {
-    let number = store_refusal(vlr, kind, count, batch);
-    if number != 0 {
-        return no_octets(Outcome::Refused(number), vlr);
+    let batch = Batch {
+        kind,
+        count,
+        octets: batch,
+    };
+    match store_refusal(vlr, batch) {
+        Ok(()) => no_octets(Outcome::Done, queued(vlr, batch)),
+        Err(refusal) => refused(vlr, refusal),
     }
-    no_octets(Outcome::Done, queued(vlr, kind, count, batch))
 }
 
 // Ask (Idle) takes the oldest, vector or triplet.
@@ -34,11 +39,10 @@ pub fn store(vlr: Vlr, kind: Kind, count: u64, batch: &[u8]) -> Reply
 pub fn ask(vlr: Vlr) -> Reply
     ensures { answer_of result ≡ spec.ask (vlr_of vlr) }
 {
-    let number = ask_refusal(vlr);
-    if number != 0 {
-        return no_octets(Outcome::Refused(number), vlr);
+    match ask_refusal(vlr) {
+        Ok(()) => request(oldest_out(vlr)),
+        Err(refusal) => refused(vlr, refusal),
     }
-    request(oldest_out(vlr))
 }
 
 // Again (Asked) gives the same RAND and AUTN.
@@ -46,19 +50,18 @@ pub fn ask(vlr: Vlr) -> Reply
 pub fn again(vlr: Vlr) -> Reply
     ensures { answer_of result ≡ spec.again (vlr_of vlr) }
 {
-    unless_refused(vlr, asked_refusal(vlr, true), request(vlr))
+    answered(vlr, asked_refusal(vlr, true), request(vlr))
 }
 
 // Answer (Asked): RES equal to XRES passes with CK and IK; on a triplet, to SRES with Kc.
-#[tactic(auto, unfolding(aka::specs::Vlr::answer, aka::specs::Vlr::unless_refused))]
+#[tactic(auto, using(vlr_refusals::proofs::Refusals::asked_sized), unfolding(aka::specs::Vlr::answer, aka::specs::Vlr::unless_refused))]
 pub fn answer(vlr: Vlr, res: &[u8]) -> Reply
     ensures { answer_of result ≡ spec.answer (vlr_of vlr) res.now }
 {
-    let number = answer_refusal(vlr, res.len());
-    if number != 0 {
-        return no_octets(Outcome::Refused(number), vlr);
+    match answer_refusal(vlr, res.len()) {
+        Ok(()) => pass_if(vlr, res_right(vlr, res)),
+        Err(refusal) => refused(vlr, refusal),
     }
-    pass_if(vlr, res_right(vlr, res))
 }
 
 // Reject (Asked): the USIM found MAC wrong.
@@ -66,7 +69,7 @@ pub fn answer(vlr: Vlr, res: &[u8]) -> Reply
 pub fn reject(vlr: Vlr) -> Reply
     ensures { answer_of result ≡ spec.reject (vlr_of vlr) }
 {
-    unless_refused(
+    answered(
         vlr,
         asked_refusal(vlr, true),
         to_idle(Outcome::Cause(1), vlr),
@@ -78,11 +81,10 @@ pub fn reject(vlr: Vlr) -> Reply
 pub fn sync(vlr: Vlr, auts: &[u8]) -> Reply
     ensures { answer_of result ≡ spec.sync (vlr_of vlr) auts.now }
 {
-    let number = sync_refusal(vlr, auts);
-    if number != 0 {
-        return no_octets(Outcome::Refused(number), vlr);
+    match sync_refusal(vlr, auts) {
+        Ok(()) => resync_request(vlr, auts),
+        Err(refusal) => refused(vlr, refusal),
     }
-    resync_request(vlr, auts)
 }
 
 // Renew (Resyncing) drops all that is held and stores the batch.
@@ -90,11 +92,15 @@ pub fn sync(vlr: Vlr, auts: &[u8]) -> Reply
 pub fn renew(vlr: Vlr, kind: Kind, count: u64, batch: &[u8]) -> Reply
     ensures { answer_of result ≡ spec.renew (vlr_of vlr) (kind_of kind) count batch.now }
 {
-    let number = renew_refusal(vlr, kind, count, batch);
-    if number != 0 {
-        return no_octets(Outcome::Refused(number), vlr);
+    let batch = Batch {
+        kind,
+        count,
+        octets: batch,
+    };
+    match renew_refusal(vlr, batch) {
+        Ok(()) => no_octets(Outcome::Done, queued(vlr_record::new(), batch)),
+        Err(refusal) => refused(vlr, refusal),
     }
-    no_octets(Outcome::Done, queued(vlr_record::new(), kind, count, batch))
 }
 
 // Timeout (Resyncing): Idle, what is held is kept.
@@ -102,7 +108,7 @@ pub fn renew(vlr: Vlr, kind: Kind, count: u64, batch: &[u8]) -> Reply
 pub fn timeout(vlr: Vlr) -> Reply
     ensures { answer_of result ≡ spec.timeout (vlr_of vlr) }
 {
-    unless_refused(vlr, timeout_refusal(vlr), to_idle(Outcome::Done, vlr))
+    answered(vlr, timeout_refusal(vlr), to_idle(Outcome::Done, vlr))
 }
 
 // Abandon (Asked): Idle.
@@ -110,5 +116,5 @@ pub fn timeout(vlr: Vlr) -> Reply
 pub fn abandon(vlr: Vlr) -> Reply
     ensures { answer_of result ≡ spec.abandon (vlr_of vlr) }
 {
-    unless_refused(vlr, asked_refusal(vlr, true), to_idle(Outcome::Done, vlr))
+    answered(vlr, asked_refusal(vlr, true), to_idle(Outcome::Done, vlr))
 }

@@ -1,5 +1,5 @@
 -- The run with a place, from the place's own octets. Assumes nothing.
-use Prim.Native.Nat.{ℕ, ◌+◌, ◌<◌}
+use Prim.Native.Nat.{ℕ, ◌+◌, ◌-◌, ◌<◌}
 use mathlib.Core.Bool.{Bool, true, false, cond, true≢false}
 use mathlib.Core.List.{[]}
 use mathlib.Core.Path.{◌≡◌, refl, sym, ap, ◌∙◌}
@@ -8,11 +8,14 @@ use borrow.Author.Tests.{ne_eqb}
 use lib.ListN.{length, get_or, take, drop, drop_of_length-le}
 use lib.Seq.{drop-drop}
 use Rattle.octets.specs.Octets.{Octets, zeros, part}
+use Rattle.octets.proofs.Copies.{rest}
 use Rattle.aka.specs.Layout.{Kind, vector, triplet, rand_size, ck_at, ck_size, ik_at, ik_size, autn_at, autn_size, xres_at, kc_at, kc_size}
 use Rattle.aka.specs.Layout.{kind_size, read_vector, read_triplet, triplet_size, vector_size}
-use Rattle.aka.specs.Vlr.{Run, place_size, place_at, good_places, kind_in, item_in, is_vector, vector_run, triplet_run, run_of}
+use Rattle.aka.specs.Vlr.{Run, place_size, place_at, good_places, kind_in, item_in, vector_run, triplet_run, run_of}
 use Rattle.aka.specs.Vlr.{run_in, res_size_of, all_zero, good_place}
 use Rattle.aka.proofs.VlrPlaces.{good_each}
+use Rattle.vlr_places.specs.declared.Kind.TheVariants.{Vector, Triplet}
+use Rattle.vlr_places.specs.Views.{is_kind}
 
 -- ---- the run
 
@@ -40,30 +43,30 @@ module _ (place : Octets) where
   -- what a vector has and a triplet has not
   part_or_zeros : (field : Run → Octets) (at n : ℕ) → field (run_of vector (item_in place)) ≡ part at n (item_in place)
       → field (run_of triplet (item_in place)) ≡ zeros n
-      → cond (is_vector (kind_in place)) (part (kind_size + at) n place) (zeros n) ≡ field (run_in place)
+      → cond (is_kind Vector (kind_in place)) (part (kind_size + at) n place) (zeros n) ≡ field (run_in place)
   part_or_zeros field at n of_vector of-triplet = go (kind_in place)
     where
-      go : (kind : Kind) → cond (is_vector kind) (part (kind_size + at) n place) (zeros n) ≡ field (run_of kind (item_in place))
+      go : (kind : Kind) → cond (is_kind Vector kind) (part (kind_size + at) n place) (zeros n) ≡ field (run_of kind (item_in place))
       go vector = of_item at n ∙ sym of_vector
       go triplet = sym of-triplet
 
-  pub autn_is : cond (is_vector (kind_in place)) (part (kind_size + autn_at) autn_size place) (zeros autn_size) ≡ (run_in place).autn
+  pub autn_is : cond (is_kind Vector (kind_in place)) (part (kind_size + autn_at) autn_size place) (zeros autn_size) ≡ (run_in place).autn
   unfolding vector_run triplet_run read_vector
   autn_is = part_or_zeros (λ run. run.autn) autn_at autn_size refl refl
 
-  pub ck_is : cond (is_vector (kind_in place)) (part (kind_size + ck_at) ck_size place) (zeros ck_size) ≡ (run_in place).ck
+  pub ck_is : cond (is_kind Vector (kind_in place)) (part (kind_size + ck_at) ck_size place) (zeros ck_size) ≡ (run_in place).ck
   unfolding vector_run triplet_run read_vector
   ck_is = part_or_zeros (λ run. run.ck) ck_at ck_size refl refl
 
-  pub ik_is : cond (is_vector (kind_in place)) (part (kind_size + ik_at) ik_size place) (zeros ik_size) ≡ (run_in place).ik
+  pub ik_is : cond (is_kind Vector (kind_in place)) (part (kind_size + ik_at) ik_size place) (zeros ik_size) ≡ (run_in place).ik
   unfolding vector_run triplet_run read_vector
   ik_is = part_or_zeros (λ run. run.ik) ik_at ik_size refl refl
 
-  pub kc_is : cond (is_vector (kind_in place)) (zeros kc_size) (part (kind_size + kc_at) kc_size place) ≡ (run_in place).kc
+  pub kc_is : cond (is_kind Triplet (kind_in place)) (part (kind_size + kc_at) kc_size place) (zeros kc_size) ≡ (run_in place).kc
   unfolding vector_run triplet_run read_triplet
   kc_is = go (kind_in place)
     where
-      go : (kind : Kind) → cond (is_vector kind) (zeros kc_size) (part (kind_size + kc_at) kc_size place) ≡ (run_of kind (item_in place)).kc
+      go : (kind : Kind) → cond (is_kind Triplet kind) (part (kind_size + kc_at) kc_size place) (zeros kc_size) ≡ (run_of kind (item_in place)).kc
       go vector = refl
       go triplet = of_item kc_at kc_size
 
@@ -81,9 +84,12 @@ module _ (place : Octets) where
   unfolding good_place
   bad_kind other another = rw (ne_eqb (get_or place 0 0) 0 other, ne_eqb (get_or place 0 0) 1 another)
 
-  pub good_triplet : get_or place 0 0 ≡ 1 → good_place place ≡ all_zero (drop (kind_size + triplet_size) place)
+  -- what stands behind a triplet decides, taken as the code takes it
+  pub good_triplet : get_or place 0 0 ≡ 1
+      → good_place place ≡ all_zero (take (length place - (kind_size + triplet_size)) (drop (kind_size + triplet_size) place))
   unfolding good_place
-  good_triplet e = rw e (ap all_zero (drop-drop triplet_size kind_size place))
+  good_triplet e =
+      rw (e, rest place (kind_size + triplet_size) (length place) refl) (ap all_zero (drop-drop triplet_size kind_size place))
 
 -- one bad place is enough
 pub bad_place : (queue : Octets) (n k : ℕ) → k < n → good_place (place_at queue k) ≡ false → good_places queue n ≡ false

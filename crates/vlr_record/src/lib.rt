@@ -5,29 +5,55 @@ pub mod queue;
 
 ghost use Rattle.std.specs.Prelude.{◌≡◌, ◌+◌, leb};
 ghost use Rattle.aka.specs.Vlr as spec;
+ghost use Rattle.aka.specs.Refusals.{number_of};
 ghost use Rattle.vlr_record.specs.Views.{state_of, vlr_of};
+ghost use Rattle.vlr_record.specs.declared.Outcome.TheVariants.{Refused};
 
-pub use vlr_places::Kind;
+use aka::Refusal;
+use queue::Queue;
+use vlr_places::Place;
+pub use vlr_places::{Batch, Kind};
 
 // Asked: a request is not answered yet. Resyncing: a synchronisation failure was handed on.
-#[derive(Clone, Copy, Drop)]
+#[derive(Clone, Copy, PartialEq, Eq)]
 pub enum State {
     Idle,
     Asked,
     Resyncing,
 }
 
+impl State {
+    pub fn is_idle(self) -> bool
+        ensures { result ≡ spec.is_idle (state_of self) }
+    {
+        self == State::Idle
+    }
+
+    pub fn is_asked(self) -> bool
+        ensures { result ≡ spec.is_asked (state_of self) }
+    {
+        self == State::Asked
+    }
+
+    pub fn is_resyncing(self) -> bool
+        ensures { result ≡ spec.is_resyncing (state_of self) }
+    {
+        self == State::Resyncing
+    }
+}
+
 // `queue` has the `held` places in use, oldest first, then zeros; `out` is the outstanding place, zeros when none.
-#[derive(Clone, Copy, Drop)]
+#[derive(Clone, Copy)]
 pub struct Vlr {
     pub state: State,
     pub held: u8,
-    pub queue: [u8; aka::QUEUE_SIZE],
-    pub out: [u8; aka::PLACE_SIZE],
+    pub queue: Queue,
+    pub out: Place,
 }
 
-// A cause and a refusal have their numbers.
-#[derive(Clone, Copy, Drop)]
+// A cause and a refusal have their numbers: `vlr_steps::no_octets` takes an outcome from its caller, and an enum in place of the numbers
+// would ask more of it.
+#[derive(Clone, Copy, PartialEq, Eq)]
 pub enum Outcome {
     Done,
     Passed,
@@ -35,8 +61,16 @@ pub enum Outcome {
     Refused(u8),
 }
 
+impl From<Refusal> for Outcome {
+    ghost from_gives = { λ refusal outcome. outcome ≡ Refused (number_of refusal) };
+
+    fn from(refusal: Refusal) -> Outcome {
+        Outcome::Refused(refusal.number())
+    }
+}
+
 // `vlr` is the next record. Octets that the outcome does not give are zero.
-#[derive(Clone, Copy, Drop)]
+#[derive(Clone, Copy)]
 pub struct Reply {
     pub outcome: Outcome,
     pub vlr: Vlr,
@@ -62,66 +96,24 @@ pub fn new() -> Vlr
 
 // ---- tests
 
-pub fn is_idle(state: State) -> bool
-    ensures { result ≡ spec.is_idle (state_of state) }
-{
-    match state {
-        State::Idle => true,
-        State::Asked => false,
-        State::Resyncing => false,
-    }
-}
-
-pub fn is_asked(state: State) -> bool
-    ensures { result ≡ spec.is_asked (state_of state) }
-{
-    match state {
-        State::Idle => false,
-        State::Asked => true,
-        State::Resyncing => false,
-    }
-}
-
-pub fn is_resyncing(state: State) -> bool
-    ensures { result ≡ spec.is_resyncing (state_of state) }
-{
-    match state {
-        State::Idle => false,
-        State::Asked => false,
-        State::Resyncing => true,
-    }
-}
-
 // Whether refusal 1 does not apply.
 #[tactic(auto, unfolding(aka::specs::Vlr::valid_vlr))]
 pub fn is_valid(vlr: Vlr) -> bool
     ensures { result ≡ spec.valid_vlr (vlr_of vlr) }
 {
-    let state = vlr.state;
-    let queue = vlr.queue;
-    let out = vlr.out;
     let held = vlr.held as usize;
-    if aka::MOST_HELD < held {
-        return false;
-    }
-    if !queue::are_good(queue, held) {
-        return false;
-    }
-    if !queue::is_unused(queue, held) {
-        return false;
-    }
-    if is_asked(state) {
-        return vlr_places::is_good(&out);
-    }
-    vlr_places::all_zero(&out)
+    held <= aka::MOST_HELD
+        && queue::are_good(vlr.queue, held)
+        && queue::is_unused(vlr.queue, held)
+        && match vlr.state {
+            State::Asked => vlr_places::is_good(&vlr.out),
+            State::Idle | State::Resyncing => vlr_places::all_zero(&vlr.out),
+        }
 }
 
 // Whether there is room for `count` items more.
 pub fn has_room(held: u8, count: u64) -> bool
     ensures { result ≡ leb (held + count) spec.most_held }
 {
-    if aka::MOST_HELD < held as usize {
-        return false;
-    }
-    count <= (aka::MOST_HELD - held as usize) as u64
+    count.saturating_add(held as u64) <= aka::MOST_HELD as u64
 }

@@ -6,27 +6,27 @@ ghost use Rattle.aka.specs.Layout.{item_size};
 ghost use Rattle.aka.specs.Vlr.{all_zero, good_places, most_held, place_size, places_of};
 ghost use Rattle.vlr_places.specs.Views.{kind_of};
 
-use vlr_places::Kind;
+use vlr_places::{Batch, Place};
+
+pub type Queue = [u8; aka::QUEUE_SIZE];
 
 // Whether the first `held` places are as they should be.
 #[tactic(auto, using(aka::proofs::VlrPlaces::good_next, vlr_places::proofs::Items::bad_place), unfolding(aka::specs::Vlr::good_places))]
-pub fn are_good(queue: [u8; aka::QUEUE_SIZE], held: usize) -> bool
+pub fn are_good(queue: Queue, held: usize) -> bool
     requires { held ≤ most_held }
     ensures { result ≡ good_places queue held }
 {
-    let mut k: usize = 0;
-    while k < held {
+    for k in 0..held {
         let at = aka::PLACE_SIZE * k;
         if !vlr_places::is_good(&queue[at..at + aka::PLACE_SIZE]) {
             return false;
         }
-        k += 1;
     }
     true
 }
 
 // Whether the places behind the first `held` are zero.
-pub fn is_unused(queue: [u8; aka::QUEUE_SIZE], held: usize) -> bool
+pub fn is_unused(queue: Queue, held: usize) -> bool
     requires { held ≤ most_held }
     ensures { result ≡ all_zero (drop (place_size * held) queue) }
 {
@@ -34,7 +34,7 @@ pub fn is_unused(queue: [u8; aka::QUEUE_SIZE], held: usize) -> bool
 }
 
 // The first place.
-pub fn oldest(queue: [u8; aka::QUEUE_SIZE]) -> [u8; aka::PLACE_SIZE]
+pub fn oldest(queue: Queue) -> Place
     ensures { result ≡ take place_size queue }
 {
     let mut place = [0u8; aka::PLACE_SIZE];
@@ -43,7 +43,7 @@ pub fn oldest(queue: [u8; aka::QUEUE_SIZE]) -> [u8; aka::PLACE_SIZE]
 }
 
 // The others move forward, and the place freed at the end is zero.
-pub fn without_oldest(queue: [u8; aka::QUEUE_SIZE]) -> [u8; aka::QUEUE_SIZE]
+pub fn without_oldest(queue: Queue) -> Queue
     ensures { result ≡ drop place_size queue ++ zeros place_size }
 {
     let mut next = [0u8; aka::QUEUE_SIZE];
@@ -52,25 +52,16 @@ pub fn without_oldest(queue: [u8; aka::QUEUE_SIZE]) -> [u8; aka::QUEUE_SIZE]
 }
 
 // The items of a batch are put behind the first `held` places, each in its own.
-pub fn with_batch(
-    queue: [u8; aka::QUEUE_SIZE],
-    held: usize,
-    kind: Kind,
-    count: usize,
-    batch: &[u8],
-) -> [u8; aka::QUEUE_SIZE]
-    requires room { held + count ≤ most_held }
-    requires size { length batch.now ≡ item_size (kind_of kind) * count }
+pub fn with_batch(queue: Queue, held: usize, batch: Batch) -> Queue
+    requires room { held + batch.count ≤ most_held }
+    requires size { length batch.octets.now ≡ item_size (kind_of batch.kind) * batch.count }
     ensures { result
-        ≡ take (place_size * held) queue ++ places_of (kind_of kind) batch.now count
-        ++ drop (place_size * held + length (places_of (kind_of kind) batch.now count)) queue }
+        ≡ take (place_size * held) queue ++ places_of (kind_of batch.entry.kind) batch.entry.octets.now batch.entry.count
+        ++ drop (place_size * held + length (places_of (kind_of batch.entry.kind) batch.entry.octets.now batch.entry.count)) queue }
 {
     let mut next = queue;
-    let mut k: usize = 0;
-    while k < count {
-        let item = vlr_places::placed_at(kind, batch, k);
-        octets::put(&mut next, aka::PLACE_SIZE * (held + k), &item);
-        k += 1;
+    for k in 0..batch.count as usize {
+        octets::put(&mut next, aka::PLACE_SIZE * (held + k), &batch.placed(k));
     }
     next
 }

@@ -1,10 +1,11 @@
 -- What holds where no refusal applies, by the laws of `aka`'s chain of refusals and of its tests. Assumes nothing.
 use Prim.Native.Nat.{ℕ, ◌+◌, ◌*◌, ◌≤◌, ◌<◌}
+use mathlib.Core.Bool.{Bool, true}
 use mathlib.Core.Path.{◌≡◌}
 use lib.ListN.{length}
 use Rattle.octets.specs.Octets.{Octets}
 use Rattle.aka.specs.Layout.{Kind, item_size, auts_size, most_vectors}
-use Rattle.aka.specs.Vlr.{Vlr, most_held, kind_in, res_size_of, response_fits, store_refusal, ask_refusal, asked_refusal, sync_refusal}
+use Rattle.aka.specs.Vlr.{Vlr, most_held, store_refusal, ask_refusal, asked_refusal, sync_refusal}
 use Rattle.aka.specs.Vlr.{renew_refusal}
 use Rattle.aka.proofs.Replies.{clear}
 use Rattle.aka.proofs.VlrLaws.{equals, counts, fits, room, some_held}
@@ -27,11 +28,10 @@ pub ask_held : (vlr : Vlr) → ask_refusal vlr ≡ 0 → 0 < vlr.held
 unfolding ask_refusal
 ask_held vlr e = (some_held vlr.held).0 (clear vlr _ _ _ _ _ e).5
 
--- a response goes with what is out, and AUTS has its length
-pub answer_length : (vlr : Vlr) (res : Octets) → asked_refusal vlr (response_fits vlr (length res)) ≡ 0
-    → length res ≡ res_size_of (kind_in vlr.out)
+-- the lent part of an operation in Asked has the length named, and AUTS has its length
+pub asked_sized : (vlr : Vlr) (sized : Bool) → asked_refusal vlr sized ≡ 0 → sized ≡ true
 unfolding asked_refusal
-answer_length vlr res e = equals.0 (clear vlr _ _ _ _ _ e).2
+asked_sized vlr sized e = (clear vlr _ _ _ _ _ e).2
 
 pub sync_length : (vlr : Vlr) (auts : Octets) → sync_refusal vlr auts ≡ 0 → length auts ≡ auts_size
 unfolding sync_refusal

@@ -3,30 +3,30 @@
 
 ghost use Rattle.std.specs.Prelude.{◌≡◌, ◌*◌, ◌+◌, ◌<◌, ◌≤◌, length};
 ghost use Rattle.aka.specs.Layout.{auts_size, item_size};
+ghost use Rattle.aka.specs.Refusals.{number_of, refusal_in};
 ghost use Rattle.aka.specs.Vlr as spec;
 ghost use Rattle.vlr_places.specs.Views.{kind_of};
 ghost use Rattle.vlr_record.specs.Views.{answer_of, outcome_of, state_of, vlr_of};
 
-use vlr_places::Kind;
+use aka::Refusal;
+use vlr_places::Batch;
 use vlr_record::{Outcome, Reply, State, Vlr, queue};
 
 // ---- records that follow
 
 // A batch is added behind what is held.
 #[tactic(auto, unfolding(aka::specs::Vlr::queued))]
-pub fn queued(vlr: Vlr, kind: Kind, count: u64, batch: &[u8]) -> Vlr
-    requires room { vlr.held + count ≤ spec.most_held }
-    requires size { length batch.now ≡ item_size (kind_of kind) * count }
-    ensures { vlr_of result ≡ spec.queued (vlr_of vlr) count (spec.places_of (kind_of kind) batch.now count) }
+pub fn queued(vlr: Vlr, batch: Batch) -> Vlr
+    requires room { vlr.held + batch.count ≤ spec.most_held }
+    requires size { length batch.octets.now ≡ item_size (kind_of batch.kind) * batch.count }
+    ensures { vlr_of result
+        ≡ spec.queued (vlr_of vlr) batch.entry.count
+        (spec.places_of (kind_of batch.entry.kind) batch.entry.octets.now batch.entry.count) }
 {
-    let state = vlr.state;
-    let queue = vlr.queue;
-    let out = vlr.out;
     Vlr {
-        state,
-        held: vlr.held + (count as u8),
-        queue: queue::with_batch(queue, vlr.held as usize, kind, count as usize, batch),
-        out,
+        held: vlr.held + (batch.count as u8),
+        queue: queue::with_batch(vlr.queue, vlr.held as usize, batch),
+        ..vlr
     }
 }
 
@@ -36,12 +36,11 @@ pub fn oldest_out(vlr: Vlr) -> Vlr
     requires { 0 < vlr.held }
     ensures { vlr_of result ≡ spec.oldest_out (vlr_of vlr) }
 {
-    let queue = vlr.queue;
     Vlr {
         state: State::Asked,
         held: vlr.held - 1,
-        queue: queue::without_oldest(queue),
-        out: queue::oldest(queue),
+        queue: queue::without_oldest(vlr.queue),
+        out: queue::oldest(vlr.queue),
     }
 }
 
@@ -50,12 +49,10 @@ pub fn oldest_out(vlr: Vlr) -> Vlr
 pub fn none_out(state: State, vlr: Vlr) -> Vlr
     ensures { vlr_of result ≡ spec.none_out (state_of state) (vlr_of vlr) }
 {
-    let queue = vlr.queue;
     Vlr {
         state,
-        held: vlr.held,
-        queue,
         out: [0; aka::PLACE_SIZE],
+        ..vlr
     }
 }
 
@@ -84,15 +81,22 @@ pub fn to_idle(outcome: Outcome, vlr: Vlr) -> Reply
     no_octets(outcome, none_out(State::Idle, vlr))
 }
 
-// The refusal's answer, or, where its number is 0, this one.
-#[tactic(auto, unfolding(aka::specs::Vlr::unless_refused))]
-pub fn unless_refused(vlr: Vlr, number: u8, reply: Reply) -> Reply
-    ensures { answer_of result ≡ spec.unless_refused (vlr_of vlr) number (answer_of reply) }
+// A refusal leaves the record.
+pub fn refused(vlr: Vlr, refusal: Refusal) -> Reply
+    ensures { answer_of result ≡ spec.no_octets (spec.refused (number_of refusal)) (vlr_of vlr) }
 {
-    if number != 0 {
-        return no_octets(Outcome::Refused(number), vlr);
+    no_octets(Outcome::from(refusal), vlr)
+}
+
+// The refusal's answer, or, where there is none, this one.
+#[tactic(auto, unfolding(aka::specs::Vlr::unless_refused))]
+pub fn answered(vlr: Vlr, refusal: Result<(), Refusal>, reply: Reply) -> Reply
+    ensures { answer_of result ≡ spec.unless_refused (vlr_of vlr) (refusal_in refusal) (answer_of reply) }
+{
+    match refusal {
+        Ok(()) => reply,
+        Err(refusal) => refused(vlr, refusal),
     }
-    reply
 }
 
 // RAND and AUTN of the outstanding item are given.
@@ -100,16 +104,10 @@ pub fn unless_refused(vlr: Vlr, number: u8, reply: Reply) -> Reply
 pub fn request(vlr: Vlr) -> Reply
     ensures { answer_of result ≡ spec.request (vlr_of vlr) }
 {
-    let out = vlr.out;
     Reply {
-        outcome: Outcome::Done,
-        vlr,
-        rand: vlr_places::rand(out),
-        autn: vlr_places::autn(out),
-        auts: [0; aka::AUTS_SIZE],
-        ck: [0; aka::CK_SIZE],
-        ik: [0; aka::IK_SIZE],
-        kc: [0; aka::KC_SIZE],
+        rand: vlr_places::rand(vlr.out),
+        autn: vlr_places::autn(vlr.out),
+        ..no_octets(Outcome::Done, vlr)
     }
 }
 
@@ -119,8 +117,7 @@ pub fn res_right(vlr: Vlr, res: &[u8]) -> bool
     requires { length res.now ≡ spec.res_size_of (spec.kind_in vlr.out) }
     ensures { result ≡ spec.res_right (vlr_of vlr) res.now }
 {
-    let out = vlr.out;
-    vlr_places::is_response(out, res)
+    vlr_places::is_response(vlr.out, res)
 }
 
 // The keys are given where RES is right: CK and IK of a vector, Kc of a triplet.
@@ -131,16 +128,11 @@ pub fn pass_if(vlr: Vlr, right: bool) -> Reply
     if !right {
         return to_idle(Outcome::Cause(2), vlr);
     }
-    let out = vlr.out;
     Reply {
-        outcome: Outcome::Passed,
-        vlr: none_out(State::Idle, vlr),
-        rand: [0; aka::RAND_SIZE],
-        autn: [0; aka::AUTN_SIZE],
-        auts: [0; aka::AUTS_SIZE],
-        ck: vlr_places::ck(out),
-        ik: vlr_places::ik(out),
-        kc: vlr_places::kc(out),
+        ck: vlr_places::ck(vlr.out),
+        ik: vlr_places::ik(vlr.out),
+        kc: vlr_places::kc(vlr.out),
+        ..to_idle(Outcome::Passed, vlr)
     }
 }
 
@@ -152,13 +144,8 @@ pub fn resync_request(vlr: Vlr, auts: &[u8]) -> Reply
 {
     let failed = vlr.out;
     Reply {
-        outcome: Outcome::Done,
-        vlr: none_out(State::Resyncing, vlr),
         rand: vlr_places::rand(failed),
-        autn: [0; aka::AUTN_SIZE],
         auts: octets::fourteen(auts),
-        ck: [0; aka::CK_SIZE],
-        ik: [0; aka::IK_SIZE],
-        kc: [0; aka::KC_SIZE],
+        ..no_octets(Outcome::Done, none_out(State::Resyncing, vlr))
     }
 }

@@ -1,10 +1,7 @@
 -- The places before k are good.
-use Rattle.std.proofs.Common.{◌-◌, ◌≡◌, ◌≤◌, true}
+use Rattle.std.proofs.Common.{◌≡◌, true}
 use Rattle.aka.specs.Vlr.{good_places}
 use Rattle.vlr_record.proofs.queue.are_good.Given as goal
 
 abbrev pub invariant-loop-k : goal.invariant-loop-k
-invariant-loop-k l = record { within : l.k ≤ l.held; good : good_places l.queue l.k ≡ true }
-
-abbrev pub decreases-loop-k : goal.decreases-loop-k
-decreases-loop-k l = l.held - l.k
+invariant-loop-k l = good_places l.queue l.k ≡ true

@@ -22,7 +22,6 @@ loop-k-init c =
     let at : place_size * (held + 0) ≡ place_size * held = omega arith in
     let front : Octets = take (place_size * held) queue in
     record {
-      within = omega arith;
       size = size;
       filled = record {
         size = ap length (append-nil front) ∙ length-take-le (place_size * held) queue (omega (arith, size, c.requires.room)) ∙ sym at;
@@ -35,23 +34,22 @@ pub loop-k-preserved : goal.loop-k-preserved
 loop-k-preserved c =
     let args = c.args in
     let k = c.loop-k.k in
-    let kind = kind_of args.kind in
-    let batch = args.batch.now in
-    let item = c.placed_at-item.result in
+    let kind = kind_of args.batch.kind in
+    let batch = args.batch.octets.now in
+    let item = c.placed.result in
     let was : length args.queue ≡ place_size * most_held = omega (arith, c.well_formed) in
     let size : length c.put.new.buffer ≡ place_size * most_held = c.put.auto.buffer ∙ c.loop-k.invariant.size in
     let further : place_size * (args.held + k) + place_size ≡ place_size * (args.held + (k + 1)) = omega arith in
     let one : length item ≡ place_size
-    = ap length c.placed_at-item.ensures ∙ length_placed kind (item_of kind batch k)
-    (length_item kind batch args.count c.requires.size k (omega arith)) in
+    = ap length c.placed.ensures ∙ length_placed kind (item_of kind batch k)
+    (length_item kind batch args.batch.count c.requires.size k (omega arith)) in
     let next = put_next item place_size c.loop-k.invariant.filled (rw one at c.put.ensures) (size ∙ sym was)
     (omega (arith, was, c.requires.room)) in
     let front : Octets = take (place_size * args.held) args.queue in
     let more : places_of kind batch k ++ item ≡ places_of kind batch (k + 1)
-    = ap (λ (x : Octets). places_of kind batch k ++ x) c.placed_at-item.ensures ∙ sym (joined_next _ k) in
+    = ap (λ (x : Octets). places_of kind batch k ++ x) c.placed.ensures ∙ sym (joined_next _ k) in
     let done = append_assoc front (places_of kind batch k) item ∙ ap (λ (x : Octets). front ++ x) more in
     record {
-      within = omega arith;
       size = size;
       filled = subst₂ (λ (d : Octets) (n : ℕ). Filled args.queue d n c.put.new.buffer) done further next;
     }

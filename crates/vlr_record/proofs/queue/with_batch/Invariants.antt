@@ -1,5 +1,5 @@
 -- So far k items of the batch stand behind the places in use.
-use Rattle.std.proofs.Common.{◌+◌, ◌-◌, ◌*◌, ◌≡◌, ◌≤◌, ◌++◌, length, take}
+use Rattle.std.proofs.Common.{◌+◌, ◌*◌, ◌≡◌, ◌++◌, length, take}
 use Rattle.octets.proofs.PartByPart.{Filled}
 use Rattle.aka.specs.Vlr.{most_held, place_size, places_of}
 use Rattle.vlr_places.specs.Views.{kind_of}
@@ -7,11 +7,7 @@ use Rattle.vlr_record.proofs.queue.with_batch.Given as goal
 
 abbrev pub invariant-loop-k : goal.invariant-loop-k
 invariant-loop-k l = record {
-  within : l.k ≤ l.count;
   size : length l.next ≡ place_size * most_held;
-  filled : Filled l.fn.queue (take (place_size * l.held) l.fn.queue ++ places_of (kind_of l.kind) l.batch l.k)
+  filled : Filled l.fn.queue (take (place_size * l.held) l.fn.queue ++ places_of (kind_of l.batch.kind) l.batch.octets.now l.k)
       (place_size * (l.held + l.k)) l.next;
 }
-
-abbrev pub decreases-loop-k : goal.decreases-loop-k
-decreases-loop-k l = l.count - l.k
