@@ -120,14 +120,11 @@ fn of_kind<const N: usize>(place: Place, kind: Kind, at: usize) -> [u8; N]
     requires { kind_size + at + N ≤ place_size }
     ensures { result ≡ cond (is_kind kind (kind_in place)) (part (kind_size + at) N place) (zeros N) }
 {
-    let mut taken = [0; N];
-    if kind_in(place) == kind {
-        octets::copy(
-            &place[aka::KIND_SIZE + at..aka::KIND_SIZE + at + N],
-            &mut taken,
-        );
+    if kind_in(place) != kind {
+        return [0; N];
     }
-    taken
+    let at = aka::KIND_SIZE + at;
+    octets::array(&place[at..at + N])
 }
 
 // It stands first in either item.
@@ -135,7 +132,7 @@ fn of_kind<const N: usize>(place: Place, kind: Kind, at: usize) -> [u8; N]
 pub fn rand(place: Place) -> [u8; aka::RAND_SIZE]
     ensures { result ≡ (run_in place).rand }
 {
-    octets::sixteen(&place[aka::KIND_SIZE..aka::KIND_SIZE + aka::RAND_SIZE])
+    octets::array(&place[aka::KIND_SIZE..aka::KIND_SIZE + aka::RAND_SIZE])
 }
 
 #[tactic(auto, using(crate::proofs::Items::autn_is))]

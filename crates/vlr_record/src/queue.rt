@@ -37,9 +37,7 @@ pub fn is_unused(queue: Queue, held: usize) -> bool
 pub fn oldest(queue: Queue) -> Place
     ensures { result ≡ take place_size queue }
 {
-    let mut place = [0u8; aka::PLACE_SIZE];
-    octets::copy(&queue[0..aka::PLACE_SIZE], &mut place);
-    place
+    octets::array(&queue[0..aka::PLACE_SIZE])
 }
 
 // The others move forward, and the place freed at the end is zero.

@@ -145,7 +145,7 @@ pub fn resync_request(vlr: Vlr, auts: &[u8]) -> Reply
     let failed = vlr.out;
     Reply {
         rand: vlr_places::rand(failed),
-        auts: octets::fourteen(auts),
+        auts: octets::array(auts),
         ..no_octets(Outcome::Done, none_out(State::Resyncing, vlr))
     }
 }
