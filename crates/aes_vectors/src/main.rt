@@ -22,8 +22,7 @@ const ROOM: usize = 33;
 fn encrypted(key: [u8; 16], block: [u8; 16]) -> [u8; 16]
     ensures { result ≡ aes key block }
 {
-    let cipher = Cipher::new(aes_words::from_octets(key));
-    aes_words::to_octets(cipher.encrypt(aes_words::from_octets(block)))
+    Cipher::new(key.into()).encrypt(block.into()).into()
 }
 
 // Whether the line is well formed: then `out`, of 32 bytes, is the ciphertext in hex, and else as it was.

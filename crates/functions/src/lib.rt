@@ -78,7 +78,7 @@ impl PreparedKeys {
         let cipher = if keys.set == 0 {
             Cipher::with_schedule([0; 44])
         } else {
-            Cipher::new(aes_words::from_octets(keys.k))
+            Cipher::new(keys.k.into())
         };
         PreparedKeys { keys, cipher }
     }
@@ -90,8 +90,8 @@ impl PreparedKeys {
         if self.keys.set == 0 {
             return PreparedRand::TestSet(test_set::x(self.keys.k, rand));
         }
-        let opc = aes_words::from_octets(self.keys.opc);
-        let temp = milenage::temp(&self.cipher, opc, aes_words::from_octets(rand));
+        let opc = self.keys.opc.into();
+        let temp = milenage::temp(&self.cipher, opc, rand.into());
         PreparedRand::Milenage(milenage::Outputs {
             cipher: &self.cipher,
             opc,
@@ -128,7 +128,7 @@ impl PreparedRand<'_> {
         match *self {
             PreparedRand::TestSet(x) => test_set::mac(x, sqn, amf),
             PreparedRand::Milenage(m) => {
-                octets::piece(aes_words::to_octets(m.out1(milenage::in1(sqn, amf))), at)
+                octets::piece(m.out1(milenage::in1(sqn, amf)).into(), at)
             }
         }
     }
@@ -139,14 +139,14 @@ impl PreparedRand<'_> {
     {
         match *self {
             PreparedRand::TestSet(x) => {
-                let x = aes_words::to_octets(x);
+                let x = x.into();
                 ResAk {
                     res: octets::piece(x, 0),
                     ak: octets::piece(x, 3),
                 }
             }
             PreparedRand::Milenage(m) => {
-                let out2 = aes_words::to_octets(m.out2());
+                let out2 = m.out2().into();
                 ResAk {
                     res: octets::piece(out2, 8),
                     ak: octets::piece(out2, 0),
@@ -160,8 +160,8 @@ impl PreparedRand<'_> {
         ensures { result ≡ (outputs_from self.now).f3 }
     {
         match *self {
-            PreparedRand::TestSet(x) => test_set::turned_left(aes_words::to_octets(x), 1),
-            PreparedRand::Milenage(m) => aes_words::to_octets(m.out3()),
+            PreparedRand::TestSet(x) => test_set::turned_left(x.into(), 1),
+            PreparedRand::Milenage(m) => m.out3().into(),
         }
     }
 
@@ -170,8 +170,8 @@ impl PreparedRand<'_> {
         ensures { result ≡ (outputs_from self.now).f4 }
     {
         match *self {
-            PreparedRand::TestSet(x) => test_set::turned_left(aes_words::to_octets(x), 2),
-            PreparedRand::Milenage(m) => aes_words::to_octets(m.out4()),
+            PreparedRand::TestSet(x) => test_set::turned_left(x.into(), 2),
+            PreparedRand::Milenage(m) => m.out4().into(),
         }
     }
 
@@ -180,8 +180,8 @@ impl PreparedRand<'_> {
         ensures { result ≡ (outputs_from self.now).f5* }
     {
         match *self {
-            PreparedRand::TestSet(x) => octets::piece(aes_words::to_octets(x), 3),
-            PreparedRand::Milenage(m) => octets::piece(aes_words::to_octets(m.out5()), 0),
+            PreparedRand::TestSet(x) => octets::piece(x.into(), 3),
+            PreparedRand::Milenage(m) => octets::piece(m.out5().into(), 0),
         }
     }
 }

@@ -41,7 +41,7 @@ pub fn in1(sqn: [u8; 6], amf: [u8; 2]) -> Block
 pub fn temp(cipher: &Cipher, opc: Block, rand: Block) -> Block
     ensures { octets_of result ≡ TEMP (CIPHER cipher.now.schedule) (octets_of opc) (octets_of rand) }
 {
-    cipher.encrypt(aes_words::xor(rand, opc))
+    cipher.encrypt(rand ^ opc)
 }
 
 impl Outputs<'_> {
@@ -50,8 +50,8 @@ impl Outputs<'_> {
         ensures { octets_of result
             ≡ OUT1 (CIPHER self.now.cipher.now.schedule) (octets_of self.now.opc) (octets_of self.now.temp) (octets_of in1) }
     {
-        let turned = blocks::turned(aes_words::xor(in1, self.opc), 2);
-        self.masked(aes_words::xor(self.temp, turned))
+        let turned = blocks::turned(in1 ^ self.opc, 2);
+        self.masked(self.temp ^ turned)
     }
 
     pub fn out2(&self) -> Block
@@ -84,7 +84,7 @@ impl Outputs<'_> {
         ensures { octets_of result
             ≡ OUT (CIPHER self.now.cipher.now.schedule) (octets_of self.now.opc) (4 * words) c (octets_of self.now.temp) }
     {
-        let turned = blocks::turned(aes_words::xor(self.temp, self.opc), words);
+        let turned = blocks::turned(self.temp ^ self.opc, words);
         self.masked(blocks::with_constant(turned, c))
     }
 
@@ -92,6 +92,6 @@ impl Outputs<'_> {
     fn masked(&self, x: Block) -> Block
         ensures { octets_of result ≡ xor (CIPHER self.now.cipher.now.schedule (octets_of x)) (octets_of self.now.opc) }
     {
-        aes_words::xor(self.cipher.encrypt(x), self.opc)
+        self.cipher.encrypt(x) ^ self.opc
     }
 }

@@ -11,13 +11,13 @@ use aes_words::Block;
 fn encrypted(k: [u8; 16], block: Block) -> Block
     ensures { octets_of result ≡ E k (octets_of block) }
 {
-    Cipher::new(aes_words::from_octets(k)).encrypt(block)
+    Cipher::new(k.into()).encrypt(block)
 }
 
 // OPc of K and OP.
 pub fn derive(k: [u8; 16], op: [u8; 16]) -> [u8; 16]
     ensures { result ≡ OPc (E k) op }
 {
-    let block = aes_words::from_octets(op);
-    aes_words::to_octets(aes_words::xor(block, encrypted(k, block)))
+    let block = Block::from(op);
+    (block ^ encrypted(k, block)).into()
 }

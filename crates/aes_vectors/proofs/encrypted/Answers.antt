@@ -8,5 +8,5 @@ use Rattle.aes_vectors.proofs.encrypted.Goals as goal
 pub returns : goal.returns
 unfolding aes
 returns c =
-    let key = c.new-cipher.ensures ∙ ap key_expansion c.from_octets.ensures in
-    c.to_octets.ensures ∙ c.encrypt.ensures ∙ ap₂ cipher key c.from_octets-2.ensures
+    let key = c.new.ensures ∙ ap key_expansion c.into.ensures in
+    c.into-3.ensures ∙ c.encrypt.ensures ∙ ap₂ cipher key c.into-2.ensures

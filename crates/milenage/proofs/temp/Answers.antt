@@ -6,4 +6,4 @@ use Rattle.milenage.proofs.temp.Goals as goal
 
 pub returns : goal.returns
 unfolding temp
-returns c = c.encrypt.ensures ∙ ap (cipher _) c.xor.ensures
+returns c = c.encrypt.ensures ∙ ap (cipher _) c.bitxor.ensures

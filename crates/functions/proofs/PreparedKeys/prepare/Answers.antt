@@ -20,8 +20,8 @@ returns c =
     let keys = c.args.self.now.keys in
     let made = c.args.self.now.made in
     let left : eqb keys.set 0 ≡ false = ne_eqb _ _ c.if-self-eq0.false in
-    let opc = c.from_octets-opc in
-    let rand = c.from_octets in
+    let opc = c.into-opc in
+    let rand = c.into in
     record {
       set = c.if-self-eq0.false;
       opc = opc.ensures;

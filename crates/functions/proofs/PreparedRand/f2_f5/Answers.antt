@@ -8,7 +8,7 @@ use Rattle.functions.proofs.PreparedRand.f2_f5.Goals as goal
 pub returns-in-TestSet : goal.returns-in-TestSet
 unfolding test_outputs
 returns-in-TestSet c =
-    let is = c.to_octets-x.ensures in
+    let is = c.into-x.ensures in
     let set = c.in-TestSet.is in (
       c.piece.ensures ∙ ap (take 8) is ∙ of_test_set (λ (o : Outputs). o.f2) set,
       c.piece-in-TestSet.ensures ∙ ap (part 3 6) is ∙ of_test_set (λ (o : Outputs). o.f5) set,
@@ -17,7 +17,7 @@ returns-in-TestSet c =
 pub returns-in-Milenage : goal.returns-in-Milenage
 unfolding milenage_outputs
 returns-in-Milenage c =
-    let is = c.to_octets-out2.ensures ∙ c.out2.ensures in
+    let is = c.into-out2.ensures ∙ c.out2.ensures in
     let set = c.in-Milenage.is in (
       c.piece-in-Milenage.ensures ∙ ap (part 8 8) is ∙ of_milenage (λ (o : Outputs). o.f2) set,
       c.piece-in-Milenage-2.ensures ∙ ap (take 6) is ∙ of_milenage (λ (o : Outputs). o.f5) set,

@@ -7,8 +7,8 @@ use Rattle.functions.proofs.PreparedRand.f4.Goals as goal
 
 pub returns-in-TestSet : goal.returns-in-TestSet
 unfolding test_outputs
-returns-in-TestSet c = c.turned_left.ensures ∙ ap (turn_left 2) c.to_octets.ensures ∙ of_test_set (λ (o : Outputs). o.f4) c.in-TestSet.is
+returns-in-TestSet c = c.turned_left.ensures ∙ ap (turn_left 2) c.into.ensures ∙ of_test_set (λ (o : Outputs). o.f4) c.in-TestSet.is
 
 pub returns-in-Milenage : goal.returns-in-Milenage
 unfolding milenage_outputs
-returns-in-Milenage c = c.to_octets-in-Milenage.ensures ∙ c.out4.ensures ∙ of_milenage (λ (o : Outputs). o.f4) c.in-Milenage.is
+returns-in-Milenage c = c.into-in-Milenage.ensures ∙ c.out4.ensures ∙ of_milenage (λ (o : Outputs). o.f4) c.in-Milenage.is

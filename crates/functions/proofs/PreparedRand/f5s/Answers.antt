@@ -7,10 +7,10 @@ use Rattle.functions.proofs.PreparedRand.f5s.Goals as goal
 
 pub returns-in-TestSet : goal.returns-in-TestSet
 unfolding test_outputs
-returns-in-TestSet c = c.piece.ensures ∙ ap (part 3 6) c.to_octets.ensures ∙ of_test_set (λ (o : Outputs). o.f5*) c.in-TestSet.is
+returns-in-TestSet c = c.piece.ensures ∙ ap (part 3 6) c.into.ensures ∙ of_test_set (λ (o : Outputs). o.f5*) c.in-TestSet.is
 
 pub returns-in-Milenage : goal.returns-in-Milenage
 unfolding milenage_outputs
 returns-in-Milenage c =
-    c.piece-in-Milenage.ensures ∙ ap (take 6) (c.to_octets-in-Milenage.ensures ∙ c.out5.ensures)
+    c.piece-in-Milenage.ensures ∙ ap (take 6) (c.into-in-Milenage.ensures ∙ c.out5.ensures)
     ∙ of_milenage (λ (o : Outputs). o.f5*) c.in-Milenage.is

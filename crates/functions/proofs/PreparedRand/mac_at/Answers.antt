@@ -9,5 +9,5 @@ returns-in-TestSet c = rw c.in-TestSet.is c.mac.ensures
 
 pub returns-in-Milenage : goal.returns-in-Milenage
 returns-in-Milenage c =
-    let out = c.to_octets.ensures ∙ c.out1.ensures ∙ ap (out1 _ _ _) c.in1.ensures in
+    let out = c.into.ensures ∙ c.out1.ensures ∙ ap (out1 _ _ _) c.in1.ensures in
     rw c.in-Milenage.is (c.piece.ensures ∙ ap (part c.args.at 8) out)

@@ -8,5 +8,5 @@ use Rattle.milenage.proofs.opc.derive.Goals as goal
 pub returns : goal.returns
 unfolding opc
 returns c =
-    let op = c.from_octets-block.ensures in
-    c.to_octets.ensures ∙ c.xor.ensures ∙ ap₂ xor op (c.encrypted.ensures ∙ ap (aes c.args.k) op)
+    let op = c.from-block.ensures in
+    c.into.ensures ∙ c.bitxor.ensures ∙ ap₂ xor op (c.encrypted.ensures ∙ ap (aes c.args.k) op)

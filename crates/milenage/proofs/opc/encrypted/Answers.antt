@@ -10,4 +10,4 @@ unfolding aes
 returns c =
     c.encrypt.ensures
     ∙ ap (λ (schedule : List ℕ). cipher schedule (octets_of c.args.block))
-    (c.new.ensures ∙ ap key_expansion c.from_octets.ensures)
+    (c.new.ensures ∙ ap key_expansion c.into.ensures)
