@@ -15,11 +15,13 @@ fn sub_word(sbox: &[u8; 256], x: u32) -> u32
     requires { IsSbox sbox.now }
     ensures { result ≡ sub_word x }
 {
-    let e = ((x >> 24) % 256) as usize;
-    let f = ((x >> 16) % 256) as usize;
-    let g = ((x >> 8) % 256) as usize;
-    let h = (x % 256) as usize;
-    aes_words::word(sbox[e], sbox[f], sbox[g], sbox[h])
+    let [e, f, g, h] = x.to_be_bytes();
+    aes_words::word(
+        sbox[e as usize],
+        sbox[f as usize],
+        sbox[g as usize],
+        sbox[h as usize],
+    )
 }
 
 // `temp` of the standard where a word takes Rcon, of the word before. `rc` is Rcon's first octet.
@@ -54,8 +56,7 @@ pub fn key_expansion(key: Block) -> [u32; 44]
     w[2] = key.c;
     w[3] = key.d;
     let mut rc = 1;
-    let mut round = 1;
-    while round <= 10 {
+    for round in 1..11 {
         let next = next_words(&sbox, &w, round, rc);
         let i = 4 * round;
         w[i] = next.a;
@@ -63,7 +64,6 @@ pub fn key_expansion(key: Block) -> [u32; 44]
         w[i + 2] = next.c;
         w[i + 3] = next.d;
         rc = gf256::double(rc);
-        round += 1;
     }
     w
 }

@@ -35,31 +35,28 @@ pub struct Numbering {
 pub fn is_known(edition: u8) -> bool
     ensures { result ≡ is_edition edition }
 {
-    if edition < 1 {
-        return false;
-    }
-    edition <= LATEST
+    1 <= edition && edition <= LATEST
 }
 
 // Its row of the table.
 pub fn row(edition: u8) -> Numbering
     ensures { Numbers (editions.numbering edition) result }
 {
-    if edition == 2 {
-        return Numbering {
+    match edition {
+        2 => Numbering {
             indices: 64,
             bits: 42,
             limit: 4398046511103,
             each: true,
             octets: 336,
-        };
-    }
-    Numbering {
-        indices: 32,
-        bits: 43,
-        limit: 8796093022207,
-        each: false,
-        octets: 172,
+        },
+        _ => Numbering {
+            indices: 32,
+            bits: 43,
+            limit: 8796093022207,
+            each: false,
+            octets: 172,
+        },
     }
 }
 
@@ -69,10 +66,8 @@ pub fn index_after(edition: u8, next: u8, vectors: u8, batches: u8) -> u8
         × (result < indices (width_of editions edition)) }
 {
     let m = row(edition);
-    if m.each {
-        return ((next as u64 + vectors as u64) % m.indices) as u8;
-    }
-    ((next as u64 + batches as u64) % m.indices) as u8
+    let steps = if m.each { vectors } else { batches };
+    ((next as u64 + steps as u64) % m.indices) as u8
 }
 
 // SQN of SEQ and IND.

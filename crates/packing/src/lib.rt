@@ -11,25 +11,12 @@ ghost use Rattle.packing.specs.Packing.{unpacked, packed};
 // The bits of an octet.
 pub const OCTET_BITS: u64 = 8;
 
-fn wide(x: u8) -> u64
-    ensures { (result ≡ x) × (result < 256) }
-{
-    x as u64
-}
-
 // The number that eight octets spell, in a form of which the compiler makes one load.
 fn word(x: &[u8]) -> u64
     requires { length x.now ≡ 8 }
     ensures { result ≡ decode x.now }
 {
-    let a = wide(x[0]);
-    let b = a * 256 + wide(x[1]);
-    let c = b * 256 + wide(x[2]);
-    let d = c * 256 + wide(x[3]);
-    let e = d * 256 + wide(x[4]);
-    let f = e * 256 + wide(x[5]);
-    let g = f * 256 + wide(x[6]);
-    g * 256 + wide(x[7])
+    u64::from_be_bytes(octets::array(x))
 }
 
 // The number of `bits` bits in x behind which `left` bits stand. It is in the word that ends with the number's last octet.
@@ -50,11 +37,9 @@ pub fn unpack(x: &[u8], at: usize, bits: u64, dst: &mut [u64])
     ensures { dst.new ≡ unpacked bits (length dst.old) (drop at x.now) }
 {
     let mut left = OCTET_BITS * ((x.len() - at) as u64);
-    let mut i = 0;
-    while i < dst.len() {
+    for number in dst.iter_mut() {
         left -= bits;
-        dst[i] = place(x, left, bits);
-        i += 1;
+        *number = place(x, left, bits);
     }
 }
 
@@ -63,21 +48,7 @@ fn put_word(dst: &mut [u8], at: usize, x: u64)
     requires { at + 8 ≤ length dst.old }
     ensures { dst.new ≡ take at dst.old ++ encode 8 x ++ drop (at + 8) dst.old }
 {
-    let g = x / 256;
-    let f = g / 256;
-    let e = f / 256;
-    let d = e / 256;
-    let c = d / 256;
-    let b = c / 256;
-    let a = b / 256;
-    dst[at] = (a % 256) as u8;
-    dst[at + 1] = (b % 256) as u8;
-    dst[at + 2] = (c % 256) as u8;
-    dst[at + 3] = (d % 256) as u8;
-    dst[at + 4] = (e % 256) as u8;
-    dst[at + 5] = (f % 256) as u8;
-    dst[at + 6] = (g % 256) as u8;
-    dst[at + 7] = (x % 256) as u8;
+    octets::put(dst, at, &x.to_be_bytes());
 }
 
 // Puts numbers of `bits` bits into octets that are all zero, from the first bit on. Eight octets or more are left behind them.
@@ -93,15 +64,13 @@ pub fn pack(src: &[u64], bits: u64, dst: &mut [u8])
 {
     let mut used = 0;
     let mut held = 0;
-    let mut i = 0;
-    while i < src.len() {
-        held = (held << bits) + src[i];
+    for number in src {
+        held = (held << bits) + *number;
         put_word(
             dst,
             (used / OCTET_BITS) as usize,
             held << (64 - used % OCTET_BITS - bits),
         );
         used += bits;
-        i += 1;
     }
 }

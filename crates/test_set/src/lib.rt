@@ -11,15 +11,14 @@ use aes_words::Block;
 pub fn x(k: [u8; 16], rand: [u8; 16]) -> Block
     ensures { octets_of result ≡ xor k rand }
 {
-    aes_words::xor(aes_words::from_octets(k), aes_words::from_octets(rand))
+    Block::from(k) ^ Block::from(rand)
 }
 
 // MAC and MAC-S, of SQN and AMF.
 pub fn mac(x: Block, sqn: [u8; 6], amf: [u8; 2]) -> [u8; 8]
     ensures { result ≡ xor (take 8 (octets_of x)) (sqn ++ amf) }
 {
-    let first = octets::eight(aes_words::to_octets(x), 0);
-    octets::xor8(first, sqn_amf(sqn, amf))
+    octets::xor(octets::piece(x.into(), 0), sqn_amf(sqn, amf))
 }
 
 // SQN, then AMF.
@@ -36,8 +35,7 @@ pub fn turned_left(x: [u8; 16], n: usize) -> [u8; 16]
     requires { n ≤ 16 }
     ensures { result ≡ turn_left n x }
 {
-    let mut turned = [0u8; 16];
-    octets::copy(&x[n..], &mut turned);
-    octets::copy(&x[..n], &mut turned[16 - n..]);
+    let mut turned = x;
+    turned.rotate_left(n);
     turned
 }

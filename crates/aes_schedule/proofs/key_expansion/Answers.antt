@@ -9,7 +9,7 @@ use Rattle.aes_schedule.proofs.key_expansion.Goals as goal
 
 pub loop-round-init : goal.loop-round-init
 unfolding expanded rcon_octet xtimes
-loop-round-init c = record { from = omega arith; to = omega arith; size = refl; done = refl; rcon = refl }
+loop-round-init c = record { size = refl; done = refl; rcon = refl }
 
 pub loop-round-preserved : goal.loop-round-preserved
 loop-round-preserved c =
@@ -17,11 +17,9 @@ loop-round-preserved c =
     let next = c.next_words-next.ensures in
     let fits : 4 * l.round + 3 < length l.w = omega arith in
     record {
-      from = omega arith;
-      to = omega arith;
       size = simp length-set l.invariant.size;
-      done = next_words _ _ _ _ _ _ _ l.invariant.from fits l.invariant.done next.a next.b next.c next.d;
-      rcon = rcon_doubled _ l.invariant.from l.invariant.rcon c.double-rc.ensures;
+      done = next_words _ _ _ _ _ _ _ (omega arith) fits l.invariant.done next.a next.b next.c next.d;
+      rcon = rcon_doubled _ (omega arith) l.invariant.rcon c.double-rc.ensures;
     }
 
 pub returns : goal.returns

@@ -13,7 +13,7 @@ returns c =
     let is_sbox = c.requires in
     let x = c.args.x in
     whole c.word.result _ (omega arith)
-    (c.word.ensures
+    (rw c.to_be_bytes.ensures at c.word.ensures
     ∙ ap₂ ◌∷◌ (is_sbox _ (omega arith) ∙ ap (λ (y : ℕ). sbox (y % 256)) (shifted3 x))
     (ap₂ ◌∷◌ (is_sbox _ (omega arith) ∙ ap (λ (y : ℕ). sbox (y % 256)) (shifted2 x))
     (ap₂ ◌∷◌ (is_sbox _ (omega arith)) (ap₂ ◌∷◌ (is_sbox _ (omega arith)) refl))))

@@ -3,9 +3,9 @@ use Rattle.std.proofs.Common.{refl, arith}
 use Rattle.aka.proofs.Editions.{row_2, row_other}
 use Rattle.editions.proofs.row.Goals as goal
 
-pub returns-then-edition-eq2 : goal.returns-then-edition-eq2
-returns-then-edition-eq2 c =
-    rw (c.if-edition-eq2.true, row_2)
+pub returns-in-2 : goal.returns-in-2
+returns-in-2 c =
+    rw (c.in-2.is, row_2)
     (record {
       indices = record { number = refl; some = omega arith; inside = omega arith };
       bits = refl;
@@ -15,9 +15,9 @@ returns-then-edition-eq2 c =
       few = omega arith;
     })
 
-pub returns : goal.returns
-returns c =
-    rw (row_other c.args.edition c.if-edition-eq2.false)
+pub returns-in_default : goal.returns-in_default
+returns-in_default c =
+    rw (row_other c.args.edition (λ e. omega arith))
     (record {
       indices = record { number = refl; some = omega arith; inside = omega arith };
       bits = refl;

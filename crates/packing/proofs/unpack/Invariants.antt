@@ -1,11 +1,8 @@
 -- The first i numbers are taken.
-use Rattle.std.proofs.Common.{length, ◌-◌}
+use Rattle.std.proofs.Common.{length}
 use Rattle.octets.specs.Octets.{decode}
 use Rattle.packing.proofs.Reading.{Unpacked}
 use Rattle.packing.proofs.unpack.Given as goal
 
-abbrev pub invariant-loop-i : goal.invariant-loop-i
-invariant-loop-i l = Unpacked (decode l.x) l.bits (length l.initial.dst) l.dst l.left l.i
-
-abbrev pub decreases-loop-i : goal.decreases-loop-i
-decreases-loop-i l = length l.initial.dst - l.i
+abbrev pub invariant-loop-number : goal.invariant-loop-number
+invariant-loop-number l = Unpacked (decode l.x) l.bits (length l.initial.dst) l.dst l.left l.number-index

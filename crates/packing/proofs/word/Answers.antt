@@ -1,9 +1,8 @@
--- Eight octets, one by one, are all of the word.
-use Rattle.std.proofs.Common.{ap, arith}
-use Rattle.octets.specs.Octets.{decode, spelt}
-use Rattle.octets.proofs.Strings.{listed_all}
+-- Eight octets are all of the word.
+use Rattle.std.proofs.Common.{ap, ◌∙◌, rules}
+use Rattle.octets.specs.Octets.{decode}
+use Rattle.octets.proofs.Bytes.{read_8}
 use Rattle.packing.proofs.word.Goals as goal
 
 pub returns : goal.returns
-unfolding spelt
-returns c = omega (arith, ap decode (listed_all c.args.x.now 8 c.requires))
+returns c = read_8 c.array.result (search rules) _ (search rules) c.from_be_bytes.ensures (search rules) ∙ ap decode c.array.ensures

@@ -6,4 +6,4 @@ use Rattle.tokens.proofs.sqn_in.Goals as goal
 
 pub returns : goal.returns
 unfolding read_autn
-returns c = c.xor6.ensures ∙ ap (λ (x : Octets). xor x c.args.ak) c.six.ensures
+returns c = c.xor.ensures ∙ ap (λ (x : Octets). xor x c.args.ak) c.piece.ensures

@@ -1,8 +1,7 @@
 -- `sqn_octets` is `encode`.
-use Rattle.std.proofs.Common.{refl}
-use Rattle.octets.specs.Octets.{digits}
+use Rattle.octets.proofs.Bytes.{encoded}
+use Rattle.aka.specs.Layout.{sqn_size}
 use Rattle.tokens.proofs.sqn_octets.Goals as goal
 
 pub returns : goal.returns
-unfolding digits
-returns c = refl
+returns c = rw c.to_be_bytes.ensures (encoded sqn_size c.args.x)
