@@ -2,8 +2,8 @@
 // SEQ_HE and the next index.
 #![tactic(auto)]
 
-ghost use Rattle.std.specs.Prelude.{true, ◌+◌, ◌++◌, ◌≡◌, length, take, drop, refl, IfOk};
-ghost use Rattle.octets.specs.Octets.{decode, encode, number, part};
+ghost use Rattle.std.specs.Prelude.{true, ◌+◌, ◌≡◌, refl, IfOk};
+ghost use Rattle.octets.specs.Octets.{encode, number};
 ghost use Rattle.functions.specs.Sets.{sets};
 ghost use Rattle.aka.specs.Layout.{amf_size, sqn_size};
 ghost use Rattle.aka.specs.Auc as aka;
@@ -13,7 +13,7 @@ ghost use Rattle.aka.specs.Editions.{editions};
 ghost use Rattle.auc_record.specs.Views.{auc_of};
 ghost use Rattle.images.proofs.Heads.{has_room};
 ghost use Rattle.images.specs.Images.{IsSound, written_of, write_answer, read_answer};
-ghost use Rattle.auc_image.specs.Image.{amf_at, bits, counters_at, format, image_size};
+ghost use Rattle.auc_image.specs.Image.{bits, format};
 ghost use Rattle.auc_image.specs.Views.{read_of};
 
 use aka::Refusal;
@@ -34,45 +34,6 @@ fn counters_of(auc: Auc) -> [u8; aka::SQN_SIZE]
     ensures { result ≡ encode sqn_size (number 2 (bits (width_of editions auc.edition) (auc_of auc))) }
 {
     tokens::sqn_octets(editions::sqn(auc.edition, auc.seqhe, auc.next))
-}
-
-// Puts AMF into an image. What stands before and behind it stays.
-fn put_amf(image: &mut [u8], amf: [u8; aka::AMF_SIZE])
-    requires { length image.old ≡ image_size }
-    ensures { image.new ≡ take amf_at image.old ++ amf ++ drop counters_at image.old }
-{
-    octets::copy(&amf, &mut image[AMF_AT..]);
-}
-
-// Puts the last six octets into an image. What stands before stays.
-fn put_counters(image: &mut [u8], counters: [u8; aka::SQN_SIZE])
-    requires { length image.old ≡ image_size }
-    ensures { image.new ≡ take counters_at image.old ++ counters ++ drop image_size image.old }
-{
-    octets::copy(&counters, &mut image[COUNTERS_AT..]);
-}
-
-// The AMF of an image.
-fn amf_in(image: &[u8]) -> [u8; aka::AMF_SIZE]
-    requires { length image.now ≡ image_size }
-    ensures { result ≡ part amf_at amf_size image.now }
-{
-    [image[AMF_AT], image[AMF_AT + 1]]
-}
-
-// The number of an image's last six octets.
-fn counters_in(image: &[u8]) -> u64
-    requires { length image.now ≡ image_size }
-    ensures { result ≡ decode (part counters_at sqn_size image.now) }
-{
-    tokens::sqn_number([
-        image[COUNTERS_AT],
-        image[COUNTERS_AT + 1],
-        image[COUNTERS_AT + 2],
-        image[COUNTERS_AT + 3],
-        image[COUNTERS_AT + 4],
-        image[COUNTERS_AT + 5],
-    ])
 }
 
 // The format of the centre's images.
@@ -104,20 +65,19 @@ impl ImageFormat for AucFormat {
     }
 
     fn fill(held: Auc, image: &mut [u8]) {
-        let counters = counters_of(held);
         images::put_head(image, held.edition, held.keys);
-        put_amf(image, held.amf);
-        put_counters(image, counters);
+        octets::put(image, AMF_AT, &held.amf);
+        octets::put(image, COUNTERS_AT, &counters_of(held));
     }
 
     fn unpack(image: &[u8]) -> Auc {
         let edition = images::edition_in(image);
         let m = editions::row(edition);
-        let counters = counters_in(image);
+        let counters = tokens::sqn_number(octets::array(&image[COUNTERS_AT..SIZE]));
         Auc {
             edition,
             keys: images::keys_in(image),
-            amf: amf_in(image),
+            amf: octets::array(&image[AMF_AT..COUNTERS_AT]),
             seqhe: counters / m.indices,
             next: (counters % m.indices) as u8,
         }

@@ -3,10 +3,9 @@
 // took.
 #![tactic(auto)]
 
-ghost use Rattle.std.specs.Prelude.{ℕ, true, ◌++◌, ◌≡◌, ◌+◌, ◌<◌, ◌≤◌, length, take, drop};
+ghost use Rattle.std.specs.Prelude.{ℕ, true, ◌++◌, ◌≡◌, ◌<◌, ◌≤◌, length, drop};
 ghost use Rattle.functions.specs.Challenge.{keys_of};
 ghost use Rattle.functions.specs.Sets.{sets};
-ghost use Rattle.aka.specs.Layout.{key_size};
 ghost use Rattle.aka.specs.Refusals.{refusal_in};
 ghost use Rattle.octets.specs.Octets.{Octets};
 ghost use Rattle.images.specs.Head.{head, head_size, edition_in, keys_in, admitted_head, no_keys};
@@ -26,14 +25,6 @@ const OPC_AT: usize = K_AT + aka::KEY_SIZE;
 // The octets of a head.
 pub const HEAD_SIZE: usize = OPC_AT + aka::KEY_SIZE;
 
-// Puts K or OPc into an image, from `at` on. What stands before and behind it stays.
-fn put_key(image: &mut [u8], at: usize, key: [u8; aka::KEY_SIZE])
-    requires { at + key_size ≤ length image.old }
-    ensures { image.new ≡ take at image.old ++ key ++ drop (at + key_size) image.old }
-{
-    octets::copy(&key, &mut image[at..]);
-}
-
 // Puts the head of a record into an image, whose edition admits its keys. What stands behind it stays.
 #[tactic(auto, using(crate::proofs::Heads::few))]
 pub fn put_head(image: &mut [u8], edition: u8, keys: Keys)
@@ -41,11 +32,9 @@ pub fn put_head(image: &mut [u8], edition: u8, keys: Keys)
     requires admitted { sets.admits edition (keys_of keys) ≡ true }
     ensures { image.new ≡ head edition (keys_of keys) ++ drop head_size image.old }
 {
-    let k = keys.k;
-    let opc = keys.opc;
     image[0] = NIBBLE * edition + keys.set;
-    put_key(image, K_AT, k);
-    put_key(image, OPC_AT, opc);
+    octets::put(image, K_AT, &keys.k);
+    octets::put(image, OPC_AT, &keys.opc);
 }
 
 // Set, K and OPc of an image.
@@ -56,8 +45,8 @@ pub fn keys_in(image: &[u8]) -> Keys
 {
     Keys {
         set: image[0] % NIBBLE,
-        k: octets::sixteen(&image[K_AT..OPC_AT]),
-        opc: octets::sixteen(&image[OPC_AT..HEAD_SIZE]),
+        k: octets::array(&image[K_AT..OPC_AT]),
+        opc: octets::array(&image[OPC_AT..HEAD_SIZE]),
     }
 }
 

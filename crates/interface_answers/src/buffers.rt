@@ -21,7 +21,7 @@ pub fn keys_from(set: u8, k: &[u8], opc: &[u8]) -> Keys
 {
     Keys {
         set,
-        k: octets::sixteen(k),
-        opc: octets::sixteen(opc),
+        k: octets::array(k),
+        opc: octets::array(opc),
     }
 }

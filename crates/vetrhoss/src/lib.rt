@@ -31,7 +31,7 @@ fn derive_opc(k: &[u8], op: &[u8], opc: &mut [u8]) -> Result<u64, Refusal>
     if !buffers::are_keys(k, op) || opc.len() != aka::KEY_SIZE {
         return Err(Refusal::Length);
     }
-    opc.copy_from_slice(&milenage::opc::derive(octets::sixteen(k), octets::sixteen(op)));
+    opc.copy_from_slice(&milenage::opc::derive(octets::array(k), octets::array(op)));
     Ok(0)
 }
 
@@ -107,7 +107,7 @@ fn new_auc(
     if amf.len() != aka::AMF_SIZE {
         return Err(Refusal::Length);
     }
-    auc_image::write(auc::new(edition, keys, [amf[0], amf[1]]), image)?;
+    auc_image::write(auc::new(edition, keys, octets::array(amf)), image)?;
     Ok(0)
 }
 

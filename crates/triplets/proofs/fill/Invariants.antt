@@ -10,6 +10,3 @@ invariant-loop-k l = record {
   within : l.k ≤ l.n;
   filled : Filled l.initial.triplets (triplets_of l.batch l.k) (triplet_size * l.k) l.triplets;
 }
-
-abbrev pub decreases-loop-k : goal.decreases-loop-k
-decreases-loop-k l = l.n - l.k

@@ -11,11 +11,11 @@ pub returns : goal.returns
 unfolding write_triplet triplet_of read_vector
 returns c =
     let rand = part 0 rand_size c.args.vector.now in
-    let sres = c.sres-sres.result in
-    let kc = c.kc-kc.result in
+    let sres = c.sres.result in
+    let kc = c.kc.result in
     let rand_long : length rand ≡ rand_size = length_part 0 rand_size c.args.vector.now (omega arith) in
-    let sres_long : length sres ≡ sres_size = c.sres-sres.type_inv.1.0.1 in
-    let kc_long : length kc ≡ kc_size = c.kc-kc.type_inv.1.0.1 in
+    let sres_long : length sres ≡ sres_size = c.sres.type_inv.1.0.1 in
+    let kc_long : length kc ≡ kc_size = c.kc.type_inv.1.0.1 in
     let one =
     put_next {d = zeros triplet_size} {done = []} {at = 0} rand rand_size (record { size = refl; is = refl })
     (rw rand_long at c.put.ensures)
@@ -25,4 +25,4 @@ returns c =
     (c.put-3.auto.buffer ∙ c.put-2.auto.buffer ∙ c.put.auto.buffer) (omega arith) in
     filled_all all refl
     ∙ append_assoc rand sres kc
-    ∙ ap (λ (l : Octets). rand ++ l) (ap₂ (λ (x y : Octets). x ++ y) c.sres-sres.ensures c.kc-kc.ensures)
+    ∙ ap (λ (l : Octets). rand ++ l) (ap₂ (λ (x y : Octets). x ++ y) c.sres.ensures c.kc.ensures)

@@ -1,7 +1,6 @@
 -- The keys or AMF are refused, or writing the record that is made is all that is left.
 use Rattle.std.proofs.Common.{ℕ, ap, ap₂, ◌∙◌}
 use borrow.Author.Tests.{eq-eqb, ne_eqb}
-use Rattle.octets.proofs.Strings.{listed_all}
 use Rattle.aka.specs.Layout.{amf_size}
 use Rattle.aka.specs.Auc.{new_auc}
 use Rattle.vetrhoss.proofs.NewImages.{handed, auc_refused, auc_amf, auc_written}
@@ -26,7 +25,7 @@ returns-in_err-write c =
     let number = handed _ _ c.from_residual-in_err-write.ensures in
     auc_written args.edition args.set args.k.now args.opc.now args.image.now args.amf.now c.in_ok-keys.ensures.refusal
     (eq-eqb _ amf_size two) _ _ _
-    (c.new.ensures ∙ ap₂ (new_auc args.edition) c.in_ok-keys.ensures.keys (listed_all args.amf.now amf_size two))
+    (c.new.ensures ∙ ap₂ (new_auc args.edition) c.in_ok-keys.ensures.keys c.array.ensures)
     (ap (λ (n : ℕ). record { refusal = n; image = c.write.new.buffer }) number ∙ c.in_err-write.ensures)
 
 pub returns : goal.returns
@@ -35,5 +34,5 @@ returns c =
     let two = c.if-amf-ne-AMF_SIZE.false in
     auc_written args.edition args.set args.k.now args.opc.now args.image.now args.amf.now c.in_ok-keys.ensures.refusal
     (eq-eqb _ amf_size two) _ _ _
-    (c.new.ensures ∙ ap₂ (new_auc args.edition) c.in_ok-keys.ensures.keys (listed_all args.amf.now amf_size two))
+    (c.new.ensures ∙ ap₂ (new_auc args.edition) c.in_ok-keys.ensures.keys c.array.ensures)
     c.in_ok-write.ensures

@@ -1,5 +1,5 @@
 -- `fill` puts the parts of an image behind each other.
-use Rattle.std.proofs.Common.{◌++◌, append_assoc, ap, ◌∙◌, arith}
+use Rattle.std.proofs.Common.{◌++◌, ◌≡◌, length, append_assoc, ap, ◌∙◌, arith, rules}
 use Rattle.octets.specs.Octets.{Octets}
 use Rattle.octets.proofs.PartByPart.{filled, put_next, filled_all}
 use Rattle.functions.specs.Sets.{sets}
@@ -19,12 +19,14 @@ unfolding image
 returns c =
     let auc = auc_of c.args.held in
     let d = c.args.image.now in
-    let last = c.counters_of-counters.result in
+    let last = c.counters_of.result in
+    let amf_long : length auc.amf ≡ amf_size = search rules in
+    let last_long : length last ≡ sqn_size = search rules in
     let same = c.put_head.auto.image in
-    let same2 = c.put_amf.auto.image ∙ same in
+    let same2 = c.put.auto.buffer ∙ same in
     let one = filled d (head auc.edition auc.keys) head_size c.put_head.ensures same (omega arith) in
-    let two = put_next auc.amf amf_size one c.put_amf.ensures same2 (omega arith) in
-    let three = put_next last sqn_size two c.put_counters.ensures (c.put_counters.auto.image ∙ same2) (omega arith) in
+    let two = put_next auc.amf amf_size one (rw amf_long at c.put.ensures) same2 (omega arith) in
+    let three = put_next last sqn_size two (rw last_long at c.put-2.ensures) (c.put-2.auto.buffer ∙ same2) (omega arith) in
     filled_all three c.requires.size
     ∙ append_assoc (head auc.edition auc.keys) auc.amf last
-    ∙ ap (λ (x : Octets). head auc.edition auc.keys ++ (auc.amf ++ x)) c.counters_of-counters.ensures
+    ∙ ap (λ (x : Octets). head auc.edition auc.keys ++ (auc.amf ++ x)) c.counters_of.ensures
