@@ -67,10 +67,10 @@ fn show(told: Told, held: bool, stored: &[u8], rand: &[u8], fresh: &[u8]) -> Tex
     text
 }
 
-// The third: behind them the store, the fresh octets and the card.
+// The third: behind them the store, the fresh octets and the card. Where a length is wrong, the store keeps its mark.
 fn keep(text: &mut Text, told: Told, held: bool, stored: &mut [u8], rand: &[u8], fresh: &[u8]) {
-    let written = handset::keep(told.outcome, held, stored, rand, fresh);
-    put_store(text, written.held, stored);
+    let held = handset::keep(told.outcome, held, stored, rand, fresh).unwrap_or(held);
+    put_store(text, held, stored);
     text.put_octets(fresh);
     usim_calls::put_image(text, told.usim);
 }
@@ -94,11 +94,11 @@ fn put_store(text: &mut Text, held: bool, stored: &[u8]) {
 fn clear(c: &Call) -> Text {
     let mut stored: [u8; LONGEST] = c.array(1);
     let stored = &mut stored[..c.size(1)];
-    let written = handset::clear(c.mark(0), stored);
-    let mut text = match written.refusal {
-        0 => Text::word(b"done"),
-        number => Text::refused(number),
+    let held = c.mark(0);
+    let (mut text, held) = match handset::clear(held, stored) {
+        Ok(held) => (Text::word(b"done"), held),
+        Err(refusal) => (Text::refused(refusal.number()), held),
     };
-    put_store(&mut text, written.held, stored);
+    put_store(&mut text, held, stored);
     text
 }

@@ -8,33 +8,22 @@ ghost use Rattle.functions.specs.Sets.{sets};
 ghost use Rattle.aka.specs.Layout.{answer_size, write_answer};
 ghost use Rattle.aka.specs.Editions.{editions};
 ghost use Rattle.aka.specs.Usim.{UsimShaped, challenge};
-ghost use Rattle.aka.specs.Handset.{handed_on, challenged, told};
-ghost use Rattle.usim_record.specs.Views.{usim_of, verdict_of};
+ghost use Rattle.aka.specs.Handset.{challenged, told};
+ghost use Rattle.usim_record.specs.Views.{usim_of};
 ghost use Rattle.handset_store.specs.Views.{store_of, outcome_of};
 ghost use Rattle.handset.specs.Views.{told_of, asked_with, unasked};
 
-pub use handset_store::{Outcome, Written, clear, keep, shown};
+pub use handset_store::{Outcome, clear, keep, shown};
+use aka::Refusal;
 use handset_store::{is_accepted, lengths_right, repeats};
-use usim::{Usim, Verdict};
+use usim::Usim;
 
 // What the first call tells, besides the fresh octets: `usim` is the card's next record. AUTS is zero but with a synchronisation failure.
-#[derive(Clone, Copy, Drop)]
+#[derive(Clone, Copy)]
 pub struct Told {
     pub outcome: Outcome,
     pub usim: Usim,
     pub auts: [u8; aka::AUTS_SIZE],
-}
-
-// The card's verdict. Its SQN is not for the handset.
-fn handed_on(verdict: Verdict) -> Outcome
-    ensures { outcome_of result ≡ handed_on (verdict_of verdict) }
-{
-    match verdict {
-        Verdict::Accepted(_) => Outcome::Accepted,
-        Verdict::Sync => Outcome::Sync,
-        Verdict::Mac => Outcome::Mac,
-        Verdict::Refused(number) => Outcome::Refused(number),
-    }
 }
 
 // Writes RES, CK and IK to the fresh octets.
@@ -60,19 +49,14 @@ fn ask(usim: Usim, rand: &[u8], autn: &[u8], fresh: &mut [u8]) -> Told
     ensures shape { UsimShaped editions (usim_of usim) }
 {
     let a = usim::challenge(usim, rand, autn);
-    let verdict = a.verdict;
-    let next = a.usim;
+    let outcome = Outcome::from(a.verdict);
     let auts = a.auts;
-    let outcome = handed_on(verdict);
     if is_accepted(outcome) {
-        let res = a.res;
-        let ck = a.ck;
-        let ik = a.ik;
-        put_answer(res, ck, ik, fresh);
+        put_answer(a.res, a.ck, a.ik, fresh);
     }
     Told {
         outcome,
-        usim: next,
+        usim: a.usim,
         auts,
     }
 }
@@ -102,11 +86,8 @@ pub fn answer(
         fresh.old) }
     ensures shape { UsimShaped editions (usim_of usim) }
 {
-    if !lengths_right(stored.len(), rand.len(), fresh.len()) {
-        return without_card(Outcome::Refused(3), usim);
-    }
-    if autn.len() != aka::AUTN_SIZE {
-        return without_card(Outcome::Refused(3), usim);
+    if !lengths_right(stored.len(), rand.len(), fresh.len()) || autn.len() != aka::AUTN_SIZE {
+        return without_card(Outcome::Refused(Refusal::Length.number()), usim);
     }
     if repeats(held, stored, rand) {
         return without_card(Outcome::Repeated, usim);

@@ -5,10 +5,14 @@
 ghost use Rattle.std.specs.Prelude.{◌≤◌, ◌&&◌, ◌≡◌, eqb, length};
 ghost use Rattle.aka.specs.Layout.{rand_size, answer_size, store_size};
 ghost use Rattle.aka.specs.Handset as spec;
+ghost use Rattle.usim_record.specs.Views.{verdict_of};
 ghost use Rattle.handset_store.specs.Views.{store_of, outcome_of, is_accepted, source_in, start_of, written_of};
 
-// The stored answer once more, or what the card says. A refusal has its number.
-#[derive(Clone, Copy, Drop)]
+use aka::Refusal;
+use usim_record::Verdict;
+
+// The stored answer once more, or what the card says. A refusal has its number, and no `aka::Refusal`: `shown` and `keep` take any outcome.
+#[derive(Clone, Copy, PartialEq, Eq)]
 pub enum Outcome {
     Repeated,
     Accepted,
@@ -17,44 +21,37 @@ pub enum Outcome {
     Refused(u8),
 }
 
+// The card's verdict, handed on. Its SQN is not for the handset.
+impl From<Verdict> for Outcome {
+    ghost from_gives = { λ verdict outcome. outcome_of outcome ≡ spec.handed_on (verdict_of verdict) };
+
+    fn from(verdict: Verdict) -> Outcome {
+        match verdict {
+            Verdict::Accepted(_) => Outcome::Accepted,
+            Verdict::Sync => Outcome::Sync,
+            Verdict::Mac => Outcome::Mac,
+            Verdict::Refused(number) => Outcome::Refused(number),
+        }
+    }
+}
+
 // Where the answer lies that is shown.
-#[derive(Drop)]
 enum Source {
     Stored,
     Fresh,
-    Nowhere,
-}
-
-// A store after a call that writes it: the number of a refusal, 0 for none, and the mark.
-#[derive(Clone, Copy, Drop)]
-pub struct Written {
-    pub refusal: u8,
-    pub held: bool,
 }
 
 pub fn is_accepted(outcome: Outcome) -> bool
     ensures { result ≡ is_accepted (outcome_of outcome) }
 {
-    match outcome {
-        Outcome::Repeated => false,
-        Outcome::Accepted => true,
-        Outcome::Sync => false,
-        Outcome::Mac => false,
-        Outcome::Refused(_) => false,
-    }
+    matches!(outcome, Outcome::Accepted)
 }
 
 // Whether the stored octets, RAND and the fresh octets have the lengths named.
 pub fn lengths_right(stored: usize, rand: usize, fresh: usize) -> bool
     ensures { result ≡ (eqb stored store_size && eqb rand rand_size && eqb fresh answer_size) }
 {
-    if stored != aka::STORE_SIZE {
-        return false;
-    }
-    if rand != aka::RAND_SIZE {
-        return false;
-    }
-    fresh == aka::ANSWER_SIZE
+    stored == aka::STORE_SIZE && rand == aka::RAND_SIZE && fresh == aka::ANSWER_SIZE
 }
 
 // Whether the store holds this RAND.
@@ -63,42 +60,33 @@ pub fn repeats(held: bool, stored: &[u8], rand: &[u8]) -> bool
     requires { (rand_size ≤ length stored.now) × (length rand.now ≡ rand_size) }
     ensures { result ≡ spec.repeats (store_of held stored.now) rand.now }
 {
-    if !held {
-        return false;
-    }
-    octets::equal(&stored[0..aka::RAND_SIZE], rand)
+    held && octets::equal(&stored[..aka::RAND_SIZE], rand)
 }
 
 // By the outcome, and by whether RAND is the stored one.
-fn source_of(outcome: Outcome, same: bool) -> Source
+fn source_of(outcome: Outcome, same: bool) -> Option<Source>
     ensures { source_in result ≡ spec.source_of (outcome_of outcome) same }
 {
     match outcome {
-        Outcome::Repeated => {
-            if same {
-                return Source::Stored;
-            }
-            Source::Nowhere
-        }
-        Outcome::Accepted => {
-            if same {
-                return Source::Stored;
-            }
-            Source::Fresh
-        }
-        Outcome::Sync => Source::Nowhere,
-        Outcome::Mac => Source::Nowhere,
-        Outcome::Refused(_) => Source::Nowhere,
+        Outcome::Repeated | Outcome::Accepted if same => Some(Source::Stored),
+        Outcome::Accepted => Some(Source::Fresh),
+        _ => None,
     }
 }
 
 // Where the answer lies; nowhere, where a length is wrong.
 #[tactic(auto, using(aka::proofs::Handset::parts_known), unfolding(aka::specs::Handset::source, aka::specs::Handset::parts_right))]
-fn find_source(outcome: Outcome, held: bool, stored: &[u8], rand: &[u8], fresh: &[u8]) -> Source
+fn find_source(
+    outcome: Outcome,
+    held: bool,
+    stored: &[u8],
+    rand: &[u8],
+    fresh: &[u8],
+) -> Option<Source>
     ensures { source_in result ≡ spec.source (outcome_of outcome) (store_of held stored.now) rand.now fresh.now }
 {
     if !lengths_right(stored.len(), rand.len(), fresh.len()) {
-        return Source::Nowhere;
+        return None;
     }
     source_of(outcome, repeats(held, stored, rand))
 }
@@ -117,45 +105,46 @@ pub fn shown<'a>(
         ≡ start_of (spec.source (outcome_of outcome) (store_of held stored.now) rand.now fresh.now)
         stored.entry.ref_ptr fresh.entry.ref_ptr }
 {
-    let source = find_source(outcome, held, stored, rand, fresh);
-    match source {
-        Source::Stored => &stored[aka::ANSWER_AT..aka::STORE_SIZE],
-        Source::Fresh => &fresh[0..aka::ANSWER_SIZE],
-        Source::Nowhere => &fresh[0..0],
+    match find_source(outcome, held, stored, rand, fresh) {
+        Some(Source::Stored) => &stored[aka::ANSWER_AT..],
+        Some(Source::Fresh) => fresh,
+        None => &fresh[..0],
     }
 }
 
-// The last of three calls: an acceptance is kept, RAND and behind it the answer. Any other outcome leaves the store as it was.
+// The last of three calls: an acceptance is kept, RAND and behind it the answer. Any other outcome leaves the store as it was. The answer is
+// the store's mark; a refusal leaves the caller's.
 #[tactic(auto, using(aka::proofs::Handset::parts_known), unfolding(aka::specs::Handset::keep, aka::specs::Handset::parts_right))]
-pub fn keep(outcome: Outcome, held: bool, stored: &mut [u8], rand: &[u8], fresh: &[u8]) -> Written
-    ensures { written_of result stored.new
+pub fn keep(
+    outcome: Outcome,
+    held: bool,
+    stored: &mut [u8],
+    rand: &[u8],
+    fresh: &[u8],
+) -> Result<bool, Refusal>
+    ensures { written_of result held stored.new
         ≡ spec.keep (outcome_of outcome) (store_of held stored.old) rand.now fresh.now }
 {
     if !lengths_right(stored.len(), rand.len(), fresh.len()) {
-        return Written { refusal: 3, held };
+        return Err(Refusal::Length);
     }
     if !is_accepted(outcome) {
-        return Written { refusal: 0, held };
+        return Ok(held);
     }
     octets::put(stored, 0, rand);
     octets::put(stored, aka::ANSWER_AT, fresh);
-    Written {
-        refusal: 0,
-        held: true,
-    }
+    Ok(true)
 }
 
-// The security mode command came, or the connection was lost: nothing is held, and all octets are zero.
+// The security mode command came, or the connection was lost: nothing is held, and all octets are zero. The answer is the store's mark, as
+// of `keep`.
 #[tactic(auto, using(octets::proofs::PartByPart::put_whole), unfolding(aka::specs::Handset::clear))]
-pub fn clear(held: bool, stored: &mut [u8]) -> Written
-    ensures { written_of result stored.new ≡ spec.clear (store_of held stored.old) }
+pub fn clear(held: bool, stored: &mut [u8]) -> Result<bool, Refusal>
+    ensures { written_of result held stored.new ≡ spec.clear (store_of held stored.old) }
 {
     if stored.len() != aka::STORE_SIZE {
-        return Written { refusal: 3, held };
+        return Err(Refusal::Length);
     }
     octets::put(stored, 0, &[0u8; aka::STORE_SIZE]);
-    Written {
-        refusal: 0,
-        held: false,
-    }
+    Ok(false)
 }

@@ -15,9 +15,9 @@ use Rattle.repeated_challenge.specs.Running.{challenge_of, answer_of, handled_of
 
 -- the three calls make the whole answer
 whole : (store : Store) (c : Challenge) (a : Answer) → Answered store c a
-    → answer_of a ≡ challenged editions sets (usim_of c.usim) store c.rand c.autn c.fresh
+    → answer_of store a ≡ challenged editions sets (usim_of c.usim) store c.rand c.autn c.fresh
 whole store c a h =
-    let three : answer_of a ≡ in_order (told_of a.told a.fresh) store c.rand =
+    let three : answer_of store a ≡ in_order (told_of a.told a.fresh) store c.rand =
     rw (h.shown, ap (λ (x : Written). x.store) h.keep) refl in
     three
     ∙ ap (λ (t : Told). in_order t store c.rand) h.answer.answer_is
@@ -28,7 +28,7 @@ same_call : (store : Store) (x : Ran) → Happened store x → handled_of store 
 same_call store (challenging c a) h = ap (λ (w : HandsetAnswer). aka.answered (challenge_of c) store w) (whole store c a h)
 same_call store (clearing written stored) h = ap (λ (w : Written). aka.cleared store w) h
 
-same_store : (store : Store) (x : Ran) → store_after x ≡ aka.store_after (handled_of store x)
+same_store : (store : Store) (x : Ran) → store_after store x ≡ aka.store_after (handled_of store x)
 same_store store (challenging c a) = refl
 same_store store (clearing written stored) = refl
 
@@ -47,7 +47,7 @@ same_answers phone (x ∷ rest) chain =
     let here = handled_of store x.what in
     let behind : Store → List (aka.On aka.Handled) = λ s. aka.together editions sets (aka.with_store d s phone) (map call_on rest) in
     ap (λ (l : List (aka.On aka.Handled)). record { domain = d; what = here } ∷ l)
-    (same_answers (aka.with_store d (store_after x.what) phone) rest chain.1 ∙ ap behind (same_store store x.what))
+    (same_answers (aka.with_store d (store_after store x.what) phone) rest chain.1 ∙ ap behind (same_store store x.what))
     ∙ ap (λ (h : aka.Handled). record { domain = d; what = h } ∷ behind (aka.store_after h)) (same_call store x.what chain.0)
 
 all_shaped : (phone : aka.Phone) (calls : List (aka.On Ran)) → Chain phone calls
@@ -56,7 +56,7 @@ unfolding Chain
 all_shaped phone [] chain = tt
 all_shaped phone (x ∷ rest) chain = (
   card_shaped (aka.store_in x.domain phone) x.what chain.0,
-  all_shaped (aka.with_store x.domain (store_after x.what) phone) rest chain.1,
+  all_shaped (aka.with_store x.domain (store_after (aka.store_in x.domain phone) x.what) phone) rest chain.1,
 )
 
 pub running : RepeatedChallenge

@@ -6,6 +6,7 @@ use mathlib.Core.Bool.{true, false}
 use mathlib.Core.List.{List, [], ◌∷◌, ◌++◌, map}
 use mathlib.Core.Path.{◌≡◌, refl}
 use lib.ListN.{length, set}
+use Rattle.std.specs.Prelude.{Ok}
 use Rattle.octets.specs.Octets.{Octets, zeros, xor, equal, turn_left, digits, spelt}
 use Rattle.functions.specs.Sets.{is_set, sets, test_outputs, base_of, outputs, outputs_of}
 use Rattle.functions.specs.SampleRun.{k, z, autn, res, ck, ik, auts}
@@ -20,9 +21,8 @@ use Rattle.usim_record.specs.declared.Usim.{Usim}
 use Rattle.usim_record.specs.Views.{usim_of}
 use Rattle.handset_store.specs.declared.Outcome.{Outcome}
 use Rattle.handset_store.specs.declared.Outcome.TheVariants.{Repeated, Accepted, Sync, Mac}
-use Rattle.handset_store.specs.declared.Written.{Written}
 use Rattle.handset.specs.Views.{told_of}
-use Rattle.repeated_challenge.specs.Running.{ShownSays, KeepSays, Challenge, Answer, Answered, Ran}
+use Rattle.repeated_challenge.specs.Running.{Written, ShownSays, KeepSays, Challenge, Answer, Answered, Ran}
 use Rattle.repeated_challenge.specs.Running.{challenging, clearing, Chain, call_on, handled}
 use Rattle.repeated_challenge.proofs.Running.{running}
 
@@ -50,10 +50,10 @@ abbrev sample : Usim → Challenge
 sample usim = record { usim = usim; rand = z; autn = autn; fresh = zeros 40 }
 
 abbrev holds : Written
-holds = record { refusal = 0; held = true }
+holds = Ok true
 
 abbrev empty : Written
-empty = record { refusal = 0; held = false }
+empty = Ok false
 
 -- nothing is written to the fresh octets
 abbrev told : Outcome → Usim → (auts shown : Octets) → Written → (stored : Octets) → Answer

@@ -1,17 +1,17 @@
 -- A repeated challenge at a phone, of the running code. `aka` states it of the definitions; here it names what `handset::answer`, `shown`
 -- and `keep`, one after the other, and `handset::clear` are lent and return. Assumes nothing.
-use Rattle.std.specs.Prelude.{List, [], ◌∷◌, map, ◌≡◌}
+use Rattle.std.specs.Prelude.{Bool, Result, List, [], ◌∷◌, map, ◌≡◌}
 use Rattle.octets.specs.Octets.{Octets}
 use Rattle.functions.specs.Sets.{sets}
 use Rattle.aka.specs.Editions.{editions}
 use Rattle.aka.specs.Usim.{UsimShaped}
 use Rattle.aka.specs.Handset.{Store, HandsetAnswer, challenged, told, shown, keep, clear}
 use Rattle.aka.specs.RepeatedChallenge as aka
+use Rattle.aka.specs.declared.Refusal.{Refusal}
 use Rattle.usim_record.specs.declared.Usim.{Usim}
 use Rattle.usim_record.specs.Views.{usim_of}
 use Rattle.handset_store.specs.declared.Outcome.{Outcome}
-use Rattle.handset_store.specs.declared.Written.{Written}
-use Rattle.handset_store.specs.Views.{store_of, outcome_of, written_of}
+use Rattle.handset_store.specs.Views.{outcome_of, written_of}
 use Rattle.handset.specs.declared.Told.{Told}
 use Rattle.handset.specs.Views.{told_of}
 
@@ -26,13 +26,17 @@ pub record AnswerSays (usim : Usim) (store : Store) (rand autn fresh : Octets) (
 abbrev pub ShownSays : Outcome → Store → (rand fresh part : Octets) → Type 0
 ShownSays outcome store rand fresh part = part ≡ shown (outcome_of outcome) store rand fresh
 
+-- what `keep` and `clear` return: the mark, or a refusal, which leaves the mark as it was
+abbrev pub Written : Type 0
+Written = Result Bool Refusal
+
 -- `keep`: of what it returns, and of what the stored octets are then
 abbrev pub KeepSays : Outcome → Store → (rand fresh : Octets) → Written → (after : Octets) → Type 0
-KeepSays outcome store rand fresh r after = written_of r after ≡ keep (outcome_of outcome) store rand fresh
+KeepSays outcome store rand fresh r after = written_of r store.held after ≡ keep (outcome_of outcome) store rand fresh
 
 -- `clear`, likewise
 abbrev pub ClearSays : Store → Written → (after : Octets) → Type 0
-ClearSays store r after = written_of r after ≡ clear store
+ClearSays store r after = written_of r store.held after ≡ clear store
 
 -- ---- the calls on one store
 
@@ -65,28 +69,28 @@ abbrev pub Happened : Store → Ran → Type 0
 Happened store (challenging c a) = Answered store c a
 Happened store (clearing written stored) = ClearSays store written stored
 
-abbrev pub store_after : Ran → Store
-store_after (challenging c a) = store_of a.written.held a.stored
-store_after (clearing written stored) = store_of written.held stored
+abbrev pub store_after : Store → Ran → Store
+store_after store (challenging c a) = (written_of a.written store.held a.stored).store
+store_after store (clearing written stored) = (written_of written store.held stored).store
 
 -- ---- as the protocol has them
 
 abbrev pub challenge_of : Challenge → aka.Challenge
 challenge_of c = record { usim = usim_of c.usim; rand = c.rand; autn = c.autn; fresh = c.fresh }
 
-abbrev pub answer_of : Answer → HandsetAnswer
-answer_of a = record {
+abbrev pub answer_of : Store → Answer → HandsetAnswer
+answer_of store a = record {
   outcome = outcome_of a.told.outcome;
   usim = usim_of a.told.usim;
   auts = a.told.auts;
-  store = store_of a.written.held a.stored;
+  store = (written_of a.written store.held a.stored).store;
   fresh = a.fresh;
   shown = a.shown;
 }
 
 abbrev pub handled_of : Store → Ran → aka.Handled
-handled_of store (challenging c a) = aka.answered (challenge_of c) store (answer_of a)
-handled_of store (clearing written stored) = aka.cleared store (written_of written stored)
+handled_of store (challenging c a) = aka.answered (challenge_of c) store (answer_of store a)
+handled_of store (clearing written stored) = aka.cleared store (written_of written store.held stored)
 
 abbrev pub call_of : Ran → aka.Call
 call_of (challenging c a) = aka.challenging (challenge_of c)
@@ -100,13 +104,15 @@ call_on x = record { domain = x.domain; what = call_of x.what }
 unfoldable pub Chain : aka.Phone → List (aka.On Ran) → Type 0
 Chain phone [] = Unit {0}
 Chain phone (x ∷ rest) =
-    Happened (aka.store_in x.domain phone) x.what × Chain (aka.with_store x.domain (store_after x.what) phone) rest
+    let store = aka.store_in x.domain phone in
+    Happened store x.what × Chain (aka.with_store x.domain (store_after store x.what) phone) rest
 
 unfoldable pub handled : aka.Phone → List (aka.On Ran) → List (aka.On aka.Handled)
 handled phone [] = []
 handled phone (x ∷ rest) =
-    record { domain = x.domain; what = handled_of (aka.store_in x.domain phone) x.what }
-    ∷ handled (aka.with_store x.domain (store_after x.what) phone) rest
+    let store = aka.store_in x.domain phone in
+    record { domain = x.domain; what = handled_of store x.what }
+    ∷ handled (aka.with_store x.domain (store_after store x.what) phone) rest
 
 -- for every phone and every list of calls on it, with any cards: `aka` `RepeatedChallenge.Conclusion` says what is promised
 abbrev pub RepeatedChallenge : Type 0
