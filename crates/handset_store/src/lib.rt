@@ -74,7 +74,8 @@ fn source_of(outcome: Outcome, same: bool) -> Option<Source>
     }
 }
 
-// Where the answer lies; nowhere, where a length is wrong.
+// Where the answer lies; nowhere, where a length is wrong. Mark, stored octets, RAND and fresh octets come one by one: callers lend them
+// apart, two of the three calls write one of them, and a struct would serve this function alone.
 #[tactic(auto, using(aka::proofs::Handset::parts_known), unfolding(aka::specs::Handset::source, aka::specs::Handset::parts_right))]
 fn find_source(
     outcome: Outcome,
@@ -112,8 +113,8 @@ pub fn shown<'a>(
     }
 }
 
-// The last of three calls: an acceptance is kept, RAND and behind it the answer. Any other outcome leaves the store as it was. The answer is
-// the store's mark; a refusal leaves the caller's.
+// The last of three calls: an acceptance is kept, RAND and behind it the answer. Any other outcome leaves the store as it was. It answers
+// the store's mark; a refusal leaves the mark as it was.
 #[tactic(auto, using(aka::proofs::Handset::parts_known), unfolding(aka::specs::Handset::keep, aka::specs::Handset::parts_right))]
 pub fn keep(
     outcome: Outcome,
@@ -136,8 +137,7 @@ pub fn keep(
     Ok(true)
 }
 
-// The security mode command came, or the connection was lost: nothing is held, and all octets are zero. The answer is the store's mark, as
-// of `keep`.
+// The security mode command came, or the connection was lost: nothing is held, and all octets are zero. It answers as `keep` does.
 #[tactic(auto, using(octets::proofs::PartByPart::put_whole), unfolding(aka::specs::Handset::clear))]
 pub fn clear(held: bool, stored: &mut [u8]) -> Result<bool, Refusal>
     ensures { written_of result held stored.new ≡ spec.clear (store_of held stored.old) }

@@ -1,8 +1,8 @@
 -- What the code knows on its way to the USIM's answer. Assumes nothing: these are definitions.
-use Rattle.std.specs.Prelude.{ℕ, true, List, ◌≡◌}
+use Rattle.std.specs.Prelude.{ℕ, true, ◌≡◌}
 use Rattle.octets.specs.Octets.{Octets, decode}
-use Rattle.functions.specs.declared.Challenge.{Challenge}
-use Rattle.functions.specs.Challenge.{Prepared}
+use Rattle.functions.specs.declared.PreparedRand.{PreparedRand}
+use Rattle.functions.specs.PreparedRand.{Prepared}
 use Rattle.functions.specs.Sets.{sets}
 use Rattle.aka.specs.Functions.{Keys}
 use Rattle.aka.specs.Sequence.{FitsSqn}
@@ -12,8 +12,8 @@ use Rattle.usim_record.specs.declared.Answer.{Answer}
 use Rattle.usim_record.specs.Views.{answer_of, SqnTold}
 
 -- MAC is right, and SQN and RES are those of the challenge
-pub record MacVerified (keys : Keys) (rand autn : Octets) (schedule : List ℕ) (c : Challenge) (n : ℕ) (r : Octets) : Type 0 where
-  pub prepared : Prepared keys rand schedule c
+pub record MacVerified (keys : Keys) (rand autn : Octets) (p : PreparedRand) (n : ℕ) (r : Octets) : Type 0 where
+  pub prepared : Prepared keys rand p
   pub mac : mac_right (sets.under keys) rand autn ≡ true
   pub sqn : n ≡ decode (sqn_in (sets.under keys) rand autn)
   pub fits : FitsSqn n

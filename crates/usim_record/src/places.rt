@@ -1,4 +1,5 @@
 // The places of the card, a SEQ for each index (document 01: the places of the card): SEQ_MS, SQN_MS and freshness.
+// They are an array and no struct with methods: callers build the card's record from one, and document 01 has it by value.
 ghost use Rattle.std.specs.Prelude.{◌≡◌, ◌+◌, ◌*◌, ◌^◌, ◌<◌, ◌≤◌, drop};
 ghost use Rattle.aka.specs.Layout.{all_zero};
 ghost use Rattle.aka.specs.Editions.{card_places};
