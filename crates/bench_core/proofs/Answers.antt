@@ -1,22 +1,13 @@
 -- What a line does. Assumes nothing.
-use Prim.Native.Nat.{ℕ, ◌*◌, ◌≤◌}
-use mathlib.Core.Logic.{◌⊎◌, ⊎_elim}
-use mathlib.Core.Path.{◌≡◌, refl, sym, ap, ap₂, ◌∙◌}
-use native.Mathlib.Nat.{mul-le-mul_left}
-use native.Mathlib.Omega.{arith}
+use Prim.Native.Nat.{ℕ, ◌≤◌}
+use mathlib.Core.Path.{◌≡◌, sym, ap, ◌∙◌}
 use borrow.Author.Tests.{le-ltb}
-use lib.ListN.{length, take}
-use lib.Seq.{take_all}
-use Rattle.octets.specs.Octets.{Octets, zeros}
-use Rattle.aka.specs.Layout.{rand_size, vector_size, most_vectors}
+use lib.ListN.{length}
+use Rattle.octets.specs.Octets.{Octets}
 use Rattle.bench_reader.specs.Commands as lines
-use Rattle.bench_reader.specs.Commands.{rands_size}
 use Rattle.bench_writer.specs.Replies.{Written, room, written}
-use Rattle.bench_desk.specs.Desk.{DeskAnswer}
-use Rattle.bench_core.specs.Bench.{Bench, BenchAnswer, rands_for, room_for, answer_to, step}
+use Rattle.bench_core.specs.Bench.{Bench, BenchAnswer, answer_to, step}
 use Rattle.bench_core.specs.Bench.{Stepped, stepped}
-
--- ---- any line
 
 module _ (bench : Bench) (line buffer : Octets) where
   pub step_is : {c : lines.Command} {a : BenchAnswer} → c ≡ lines.read line → a ≡ answer_to bench c c.word → a ≡ step bench line

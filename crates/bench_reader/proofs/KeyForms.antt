@@ -9,7 +9,7 @@ use Rattle.std.specs.Prelude.{Option, Some, None}
 use Rattle.std.proofs.lemmas.Option.{cond_some, none-some}
 use Rattle.octets.specs.Octets.{Octets, zeros}
 use Rattle.fields.specs.Fields.{is_hex_field, octets_in, read_field_into, is_decimal_digit, decimal_digit}
-use Rattle.fields.proofs.FieldLaws.{low_digit, high_digit, field_there, field_octets}
+use Rattle.fields.proofs.FieldLaws.{is_digit, low_digit, high_digit, field_there, field_octets}
 use Rattle.aka.specs.Layout.{key_size, amf_size}
 use Rattle.bench_reader.specs.Commands.{key, bad_line, alone, set_at, k_at, opc_at, key_amf_at, key_length}
 use Rattle.bench_reader.specs.Commands.{key_form, key_command, read_key, rands_size}
@@ -79,5 +79,5 @@ module _ (line : List ℕ) where
       let c = cond_some (is_hex_field amf_size key_amf_at line) (octets_in amf_size key_amf_at line) amf (sym is-amf) in
       rw (eq-eqb (length line) key_length n, s, a.0, b.0, c.0, a.1, b.1, c.1)
 
--- each test of a key line that fails
-pub ruleset no_key_forms = (key_length_lem, key_set, key_k, key_opc, key_amf, low_digit, high_digit)
+-- each test of a key line that fails, and the line that is one
+pub ruleset key_forms = (key_length_lem, key_set, key_k, key_opc, key_amf, key_read, low_digit, high_digit, is_digit)

@@ -7,14 +7,12 @@ use mathlib.Core.Path.{◌≡◌, sym, ap, ◌∙◌}
 use native.Mathlib.Nat.{eq-or-lt_of_le}
 use native.Mathlib.Numerals.{add-one}
 use native.Mathlib.Omega.{arith}
-use borrow.Author.Tests.{le-leb, lt-leb}
 use borrow.Rule.Slice.PartMut.{put_mid, Post-is}
 use Rattle.std.proofs.lemmas.Bool.Decides.{nat_tests}
-use lib.Dec.{leb}
-use lib.ListN.{length, get_or, drop, get_or-eq_default}
+use lib.ListN.{length, drop}
 use lib.Seq.{take_at, drop-append-add, drop-drop}
 use Rattle.octets.specs.Octets.{Octets}
-use Rattle.fields.specs.Fields.{is_hex_field, octets_in, decimal_digit}
+use Rattle.fields.specs.Fields.{is_hex_field, octets_in}
 use Rattle.aka.specs.Layout.{rand_size, most_vectors}
 use Rattle.bench_reader.specs.Commands.{count_at, rand_field_at, rand_fields, rand_octets}
 
@@ -61,25 +59,6 @@ module _ (from : ℕ) (line : List ℕ) where
 -- ---- the count
 
 module _ (at : ℕ) (line : List ℕ) where
-  pub count_low : get_or line at 0 < 49 → 0 ≡ count_at at line
-  unfolding count_at
-  count_low h = rw (lt-leb 1 (decimal_digit (get_or line at 0)) (omega arith))
-
-  pub count_high : most_vectors < decimal_digit (get_or line at 0) → 0 ≡ count_at at line
-  unfolding count_at
-  count_high h = rw (lt-leb (decimal_digit (get_or line at 0)) most_vectors h, and-false (leb 1 (decimal_digit (get_or line at 0))))
-
-  pub count_is : 49 ≤ get_or line at 0 → decimal_digit (get_or line at 0) ≤ most_vectors
-      → decimal_digit (get_or line at 0) ≡ count_at at line
-  unfolding count_at
-  count_is h g = rw (le-leb 1 (decimal_digit (get_or line at 0)) (omega arith), le-leb (decimal_digit (get_or line at 0)) most_vectors g)
-
-  -- past the end there is none
-  pub count_past : length line ≤ at → 0 ≡ count_at at line
-  count_past h = count_low (omega (arith, get_or-eq_default line 0 h))
-
   pub count_most : count_at at line ≤ most_vectors
   unfolding count_at
   count_most = grind (arith, nat_tests)
-
-pub ruleset counts = (count_past, count_low, count_high, count_is)

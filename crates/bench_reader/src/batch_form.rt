@@ -10,7 +10,7 @@ use crate::rands::{RANDS_SIZE, Rands};
 const RAND_FIELD: usize = 1 + 2 * aka::RAND_SIZE;
 
 // The count at a place of the line, 1 to 5.
-#[tactic(auto, using(crate::proofs::RandFields::counts))]
+#[tactic(auto, using(std::proofs::lemmas::Bool::Decides::nat_tests), unfolding(crate::specs::Commands::count_at))]
 fn count_at(line: &[u8], at: usize) -> Option<u8>
     ensures { result ≡ cond (ltb 0 (count_at at line.now)) (Some (count_at at line.now)) None }
 {

@@ -24,6 +24,7 @@ const AMF: usize = OPC + KEY_FIELD;
 const KEY_LINE: usize = AMF + AMF_FIELD;
 
 // The octets of the hex field at a place of the line.
+#[tactic(auto, using(crate::proofs::KeyForms::octets_read))]
 fn octets<const N: usize>(line: &[u8], at: usize) -> Option<[u8; N]>
     ensures { result ≡ cond (is_hex_field N at line.now) (Some (octets_in N at line.now)) None }
 {
@@ -34,7 +35,7 @@ fn octets<const N: usize>(line: &[u8], at: usize) -> Option<[u8; N]>
     Some(out)
 }
 
-#[tactic(auto, using(crate::proofs::KeyForms::no_key_forms))]
+#[tactic(auto, using(crate::proofs::KeyForms::key_forms))]
 pub fn read_key(line: &[u8]) -> Option<Command>
     ensures { command_of result ≡ read_key line.now }
 {
