@@ -6,8 +6,9 @@ use mathlib.Core.Logic.{⊎_elim}
 use mathlib.Core.Path.{◌≡◌, refl, sym, ap, ◌∙◌}
 use native.Mathlib.Numerals.{add-one}
 use native.Mathlib.Omega.{arith}
-use borrow.Author.Tests.{lt-ltb}
+use borrow.Author.Tests.{eq-eqb, lt-ltb, ne_eqb}
 use lib.Dec.{eqb, ltb, leb-suc-suc}
+use Rattle.std.proofs.Common.{get_or, ◌≢◌}
 use lib.ListN.{drop, length, length-take, take}
 use lib.Seq.{take_all, take-nil, take-take}
 use Rattle.octets.proofs.Walks.{order}
@@ -124,3 +125,13 @@ cut_long f long n size h same line =
     (λ (more : size < length line).
     same (take size line) (rw (length-take size line) (omega arith)) ∙ sym (same line (omega arith)))
     (λ (fits : length line ≤ size). ap f (take_all size line fits)) (order size (length line))
+
+-- how many bytes come before the first newline
+pub first_newline : (t : List ℕ) (n : ℕ) → n ≤ length t → ((k : ℕ) → k < n → get_or t k 0 ≢ newline)
+    → (n < length t → get_or t n 0 ≡ newline) → n ≡ length (up_to_newline t)
+unfolding up_to_newline
+first_newline [] n h before found = omega arith
+first_newline (c ∷ t) zero h before found = rw (eq-eqb c newline (found (omega arith))) refl
+first_newline (c ∷ t) (suc n) h before found =
+    rw (ne_eqb c newline (before 0 (omega arith)))
+    (omega (arith, first_newline t n (omega arith) (λ k g. before (suc k) (omega arith)) (λ g. found (omega arith))))

@@ -1,5 +1,5 @@
 -- The loop of a program that answers lines: each turn goes on with the run. Assumes nothing.
-use Prim.Native.Nat.{ℕ, ◌+◌, ◌-◌, ◌/◌, ◌<◌, ◌≤◌}
+use Prim.Native.Nat.{ℕ, ◌+◌, ◌/◌, ◌≤◌}
 use mathlib.Core.Bool.{Bool, true, false, ◌&&◌, ◌||◌, not}
 use mathlib.Core.List.{List, []}
 use mathlib.Core.Logic.{inl, inr}
@@ -38,14 +38,14 @@ answer_is piece line out text p {r} {after} filled is =
     ∙ ap (λ (w : List ℕ). standing (drop p.at (take p.size piece)) [] w false p.over p.failed) (filled_front _ out filled)
 
 module _ {S : Type 0} (Answers : Answering S) (first : S) (longest room : ℕ) where
-  -- a run that goes on, with so many turns left
-  pub record Going (left : ℕ) (state : S) (s : Standing) : Type 0 where
+  -- a run that goes on, after so many turns
+  pub record Going (turns : ℕ) (state : S) (s : Standing) : Type 0 where
     pub history : History S
     pub run : Run Answers first longest room history state s
-    pub count : history.turns + left ≡ most_turns
+    pub count : history.turns ≡ turns
     pub idle : s.ready ≡ false
 
-  going_first : Going most_turns first at_first
+  going_first : Going 0 first at_first
   going_first = record {
     history = record { turns = 0; input = []; output = []; given = [] };
     run = begin;
@@ -56,7 +56,7 @@ module _ {S : Type 0} (Answers : Answering S) (first : S) (longest room : ℕ) w
   -- before the first read, whatever the buffers hold
   pub going_begun : (piece line out : List ℕ) {state : S} {p : Progress} → state ≡ first
       → p ≡ record { at = 0; size = 0; held = 0; used = 0; ready = false; over = false; failed = false }
-      → Going most_turns state (standing_of piece line out p)
+      → Going 0 state (standing_of piece line out p)
   going_begun piece line out e is = rw (e, is) going_first
 
   there : {h : History S} {state : S} {s s' : Standing} → s' ≡ s → Run Answers first longest room h state s
@@ -74,14 +74,14 @@ module _ {S : Type 0} (Answers : Answering S) (first : S) (longest room : ℕ) w
       (_, there is.3 (answer run e is.0 after is.1 is.2), refl, ap (λ (x : Standing). x.ready) is.3)
 
   -- a turn, of a program whose buffers have these sizes
-  module _ {left : ℕ} {state : S} {s s₁ : Standing} (g : Going left state s) (failed : Bool) (came : List ℕ) {l r : ℕ}
+  module _ {turns : ℕ} {state : S} {s s₁ : Standing} (g : Going turns state s) (failed : Bool) (came : List ℕ) {l r : ℕ}
       (is : s₁ ≡ advanced l r s failed came) (line : l ≡ longest) (out : r ≡ room) where
     turned : s₁ ≡ advanced longest room s failed came
     turned = is ∙ ap₂ (λ (x y : ℕ). advanced x y s failed came) line out
 
     -- with the program's own part it goes on
-    pub goes_on : {after : S} {s₂ : Standing} → 0 < left → AnsweredIf s₁.ready Answers r state s₁ after s₂ → Going (left - 1) after s₂
-    goes_on more part =
+    pub goes_on : {after : S} {s₂ : Standing} → AnsweredIf s₁.ready Answers r state s₁ after s₂ → Going (turns + 1) after s₂
+    goes_on part =
         let next = own_part s₁.ready refl (there turned (turn g.run g.idle failed came)) (rw out at part) in
         record { history = next.0; run = next.1; count = omega (arith, g.count, next.2); idle = next.3 }
 
@@ -90,8 +90,8 @@ module _ {S : Type 0} (Answers : Answering S) (first : S) (longest room : ℕ) w
     ends e = record { history = _; run = there turned (turn g.run g.idle failed came); end = inl e }
 
   -- the last turn is over
-  pub runs_out : {left : ℕ} {state : S} {s : Standing} → Going left state s → left ≤ 0 → Ran Answers first longest room state s
-  runs_out g none = record { history = g.history; run = g.run; end = inr (omega (arith, g.count)) }
+  pub runs_out : {turns : ℕ} {state : S} {s : Standing} → Going turns state s → turns ≡ most_turns → Ran Answers first longest room state s
+  runs_out g all = record { history = g.history; run = g.run; end = inr (omega (arith, g.count)) }
 
 -- ---- the program's own part, in its two ways
 

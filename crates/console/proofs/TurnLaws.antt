@@ -1,6 +1,6 @@
 -- The steps of a turn, as the code takes them, are those of the definitions. Assumes nothing.
 use Prim.Native.Nat.{ℕ, suc, ◌+◌, ◌-◌, ◌/◌, ◌≤◌, min}
-use mathlib.Core.Bool.{Bool, true, false, ◌&&◌, ◌||◌, not, cond}
+use mathlib.Core.Bool.{and-false, Bool, true, false, ◌||◌, not, cond}
 use mathlib.Core.List.{List, [], ◌∷◌}
 use mathlib.Core.Path.{◌≡◌, refl, sym, ap, ap₂, ◌∙◌}
 use native.Mathlib.Omega.{arith}
@@ -26,17 +26,19 @@ unfolding is_empty
 has_some [] = refl
 has_some (x ∷ l) = lt-ltb 0 (suc (length l)) (omega arith)
 
--- whether nothing is read
-pub reads_is : (s : Standing) {left : List ℕ} (kept : Bool) → left ≡ s.piece
-    → (not (eqb (length left) 0) || s.over) ≡ kept → reads s ≡ not kept
-unfolding reads
-reads_is s {left} kept l e =
-    ap (λ (x : Bool). x && not s.over) (sym (is_empty_lem s.piece) ∙ ap (λ (x : List ℕ). eqb (length x) 0) (sym l))
-    ∙ both (eqb (length left) 0) s.over ∙ ap not e
-  where
-    both : (a b : Bool) → a && not b ≡ not (not a || b)
-    both false b = refl
-    both true b = refl
+-- whether the next piece is read
+module _ (s : Standing) where
+  pub reads_on : {left : List ℕ} → left ≡ s.piece → length left ≡ 0 → s.over ≡ false → reads s ≡ true
+  unfolding reads
+  reads_on l e o = rw (← l, ← is_empty_lem, e, o)
+
+  pub some_left : {left : List ℕ} → left ≡ s.piece → (length left ≡ 0 → ⊥) → reads s ≡ false
+  unfolding reads
+  some_left {left} l n = rw (← l, ← is_empty_lem, ne_eqb (length left) 0 n)
+
+  pub has_ended : s.over ≡ true → reads s ≡ false
+  unfolding reads
+  has_ended o = rw o (and-false (is_empty s.piece))
 
 module _ (room : ℕ) (s : Standing) where
   -- what is due, as the code counts it

@@ -3,41 +3,32 @@
 // contract can say lies in `write_due` and `fetch`: what a read brought, whether a write arrived, and that it was of the bytes due.
 #![tactic(auto)]
 
-ghost use Rattle.std.specs.Prelude.{ℕ, min, ◌/◌, Bool, true, false, ◌&&◌, ◌||◌, not, cond, List, ◌≡◌, eqb, ltb, length, take, drop};
+ghost use Rattle.std.specs.Prelude.{ℕ, ◌*◌, ◌/◌, ◌≤◌, Bool, true, false, ◌&&◌, ◌||◌, not, cond, List, ◌≡◌, eqb, ltb, length, take, drop, IfOk};
 ghost use Rattle.io.specs.Counts.{IsPrefixLen};
 ghost use Rattle.console.specs.Buffers.{appended, buffer_of};
 ghost use Rattle.console.specs.Lines.{up_to_newline};
+ghost use Rattle.console.specs.Turns.{AnsweredIf, Answering, Ran};
 ghost use Rattle.console.specs.Turns.{advanced, due, ended_at, exchanged, standing_of, stopped, part_taken};
 
-use std::io::{Read, Write};
+use std::io::{self, Read, Write};
 
 const NEWLINE: u8 = 10;
 
 // ---- parts of buffers
 
-// The smaller of two numbers.
-fn smaller(a: usize, b: usize) -> usize
-    ensures { result ≡ min a b }
-{
-    if a <= b { a } else { b }
-}
-
 // The first `n` bytes; all, where there are fewer.
 pub fn first_bytes<'a>(bytes: &'a [u8], n: usize) -> &'a [u8]
     ensures { result.now ≡ take n bytes.now }
 {
-    if n < bytes.len() {
-        return &bytes[..n];
-    }
-    bytes
+    &bytes[..n.min(bytes.len())]
 }
 
 // Puts `part` behind the first `used` bytes of `buffer`, as far as there is room, and returns how many are used then.
 pub fn append(buffer: &mut [u8], used: usize, part: &[u8]) -> usize
     ensures { buffer_of result buffer.new ≡ appended buffer.old used part.now }
 {
-    let from = smaller(used, buffer.len());
-    let n = smaller(part.len(), buffer.len() - from);
+    let from = used.min(buffer.len());
+    let n = part.len().min(buffer.len() - from);
     from + octets::copy(&part[..n], &mut buffer[from..])
 }
 
@@ -45,14 +36,10 @@ pub fn append(buffer: &mut [u8], used: usize, part: &[u8]) -> usize
 fn up_to_newline(bytes: &[u8]) -> usize
     ensures { result ≡ length (up_to_newline bytes.now) }
 {
-    let mut i = 0;
-    while i < bytes.len() {
-        if bytes[i] == NEWLINE {
-            return i;
-        }
-        i += 1;
-    }
-    i
+    bytes
+        .iter()
+        .position(|c| *c == NEWLINE)
+        .unwrap_or(bytes.len())
 }
 
 // ---- how far a program is
@@ -89,7 +76,7 @@ pub fn begin() -> Progress
 pub fn is_ended(p: Progress) -> bool
     ensures { result ≡ ended_at p }
 {
-    p.failed | (p.over & !p.ready & (p.used == 0))
+    p.failed || (p.over && !p.ready && p.used == 0)
 }
 
 // What is not taken yet of the piece.
@@ -97,8 +84,7 @@ fn untaken<'a>(piece: &'a [u8], p: Progress) -> &'a [u8]
     ensures { result.now ≡ drop p.at (take p.size piece.now) }
 {
     let came = first_bytes(piece, p.size);
-    let at = smaller(p.at, came.len());
-    &came[at..]
+    &came[p.at.min(came.len())..]
 }
 
 // ---- what is written out
@@ -109,13 +95,11 @@ fn untaken<'a>(piece: &'a [u8], p: Progress) -> &'a [u8]
 fn count_due(left: usize, waiting: usize, room: usize) -> usize
     ensures { result ≡ cond (eqb left 0 || ltb (room / 2) waiting) waiting 0 }
 {
-    if left == 0 {
-        return waiting;
+    if left == 0 || room / 2 < waiting {
+        waiting
+    } else {
+        0
     }
-    if room / 2 < waiting {
-        return waiting;
-    }
-    0
 }
 
 // The answers that are due: of those that wait in `out` all or none.
@@ -130,24 +114,22 @@ fn due_part<'a>(piece: &[u8], out: &'a [u8], p: Progress) -> &'a [u8]
 
 // ---- outside
 
-// How many bytes were handed to the writer, and whether they arrived.
+// The reader and the two writers of a program.
 #[derive(Drop)]
-pub struct Written {
-    pub count: usize,
-    pub arrived: bool,
+pub struct Console<R, W, E> {
+    pub input: R,
+    pub output: W,
+    pub errors: E,
 }
 
-// Hands what is due to the writer. Where that is nothing, no call is made.
-fn write_due<W: Write>(output: &mut W, piece: &[u8], out: &[u8], p: Progress) -> Written
-    ensures { (line : List ℕ) → result.count
-        ≡ length (due (length out.now) (standing_of piece.now line out.now p)) }
+// Hands what is due to the writer, and answers how many bytes that is where they arrived. Where it is nothing, no call is made.
+fn write_due<W: Write>(output: &mut W, piece: &[u8], out: &[u8], p: Progress) -> io::Result<usize>
+    ensures { (line : List ℕ) → IfOk result (λ n. n
+        ≡ length (due (length out.now) (standing_of piece.now line out.now p))) }
 {
     let bytes = due_part(piece, out, p);
-    let arrived = output.write_all(bytes).is_ok();
-    Written {
-        count: bytes.len(),
-        arrived,
-    }
+    output.write_all(bytes)?;
+    Ok(bytes.len())
 }
 
 // One read, so that a line that is typed is answered at once. How many bytes came to the front of `piece`: none at the end of the input, or
@@ -155,10 +137,7 @@ fn write_due<W: Write>(output: &mut W, piece: &[u8], out: &[u8], p: Progress) ->
 fn fetch<R: Read>(input: &mut R, piece: &mut [u8]) -> usize
     ensures { IsPrefixLen result piece.new }
 {
-    match input.read(piece) {
-        Ok(n) => n,
-        Err(_) => 0,
-    }
+    input.read(piece).unwrap_or(0)
 }
 
 // ---- a turn
@@ -166,9 +145,7 @@ fn fetch<R: Read>(input: &mut R, piece: &mut [u8]) -> usize
 // Writes out what is due, and reads the next piece where the last one is used up. What was written out no longer waits. A write that
 // fails is told on the writer for errors, and nothing is read.
 fn exchange<R: Read, W: Write, E: Write>(
-    input: &mut R,
-    output: &mut W,
-    errors: &mut E,
+    console: &mut Console<R, W, E>,
     piece: &mut [u8],
     out: &[u8],
     p: Progress,
@@ -180,40 +157,26 @@ fn exchange<R: Read, W: Write, E: Write>(
 {
     let left = untaken(piece, p).len();
     let waiting = first_bytes(out, p.used).len();
-    let written = write_due(output, piece, out, p);
-    if !written.arrived {
-        let _ = errors.write_all(b"the answers cannot be written\n");
+    let Ok(written) = write_due(&mut console.output, piece, out, p) else {
+        let _ = console.errors.write_all(b"the answers cannot be written\n");
+        return Progress { failed: true, ..p };
+    };
+    let used = waiting - written;
+    if left != 0 || p.over {
         return Progress {
-            at: p.at,
-            size: p.size,
-            held: p.held,
-            used: p.used,
-            ready: p.ready,
-            over: p.over,
-            failed: true,
-        };
-    }
-    let used = waiting - written.count;
-    if (left != 0) | p.over {
-        return Progress {
-            at: p.at,
-            size: p.size,
-            held: p.held,
             used,
-            ready: p.ready,
-            over: p.over,
             failed: false,
+            ..p
         };
     }
-    let size = fetch(input, piece);
+    let size = fetch(&mut console.input, piece);
     Progress {
         at: 0,
         size,
-        held: p.held,
         used,
-        ready: p.ready,
         over: size == 0,
         failed: false,
+        ..p
     }
 }
 
@@ -228,22 +191,17 @@ fn take_part(piece: &[u8], line: &mut [u8], p: Progress) -> Progress
     let held = append(line, p.held, &rest[..n]);
     let last = first_bytes(piece, p.size).len();
     Progress {
-        at: smaller(p.at, last) + n + 1,
-        size: p.size,
+        at: p.at.min(last) + n + 1,
         held,
-        used: p.used,
-        ready: (n < rest.len()) | (p.over & (0 < held)),
-        over: p.over,
-        failed: p.failed,
+        ready: n < rest.len() || (p.over && 0 < held),
+        ..p
     }
 }
 
 // A turn, up to the answer: writes out, reads and takes what is next. Where the line is whole after it, the line buffer begins with
 // `held` bytes of it: all, or as many as the buffer has. What stands behind them, and in the piece outside what is not taken yet, is free.
 pub fn advance<R: Read, W: Write, E: Write>(
-    input: &mut R,
-    output: &mut W,
-    errors: &mut E,
+    console: &mut Console<R, W, E>,
     piece: &mut [u8],
     line: &mut [u8],
     out: &[u8],
@@ -253,7 +211,7 @@ pub fn advance<R: Read, W: Write, E: Write>(
         ≡ advanced (length line.old) (length out.now)
         (standing_of piece.old line.old out.now p) result.failed (take result.size piece.new) }
 {
-    let met = exchange(input, output, errors, piece, out, p);
+    let met = exchange(console, piece, out, p);
     if met.failed {
         return met;
     }
@@ -268,12 +226,75 @@ pub fn put_answer(out: &mut [u8], p: Progress, text: &[u8]) -> Progress
 {
     let used = append(out, p.used, text);
     Progress {
-        at: p.at,
-        size: p.size,
         held: 0,
         used,
         ready: false,
-        over: p.over,
-        failed: p.failed,
+        ..p
     }
+}
+
+// ---- the loop
+
+// A program's own part: its state, and the answer to a line.
+pub trait Program {
+    ghost State: { Type 0 };
+
+    ghost state: { Self → State };
+
+    // which text and which next state a line may have
+    ghost answers: { Answering State };
+
+    // the bytes that an answer has room in
+    ghost room: { ℕ };
+
+    // Writes the answer to a line to the front of `text`, and returns its length.
+    fn answer(&mut self, line: &[u8], text: &mut [u8]) -> usize
+        requires { room ≤ length text.old }
+        ensures { answers (state self.old) line.now (take result text.new) (state self.new) };
+}
+
+// Answers the line where it is whole. The buffer of answers has room for two.
+fn answer<P: Program>(
+    program: &mut P,
+    line: &[u8],
+    text: &mut [u8],
+    out: &mut [u8],
+    p: Progress,
+) -> Progress
+    requires text { P.room ≤ length text.old }
+    requires out { 2 * length text.old ≤ length out.old }
+    ensures { (piece : List ℕ) → AnsweredIf p.ready P.answers (length out.old)
+        (P.state program.old) (standing_of piece line.now out.old p)
+        (P.state program.new) (standing_of piece line.now out.new result) }
+{
+    if !p.ready {
+        return p;
+    }
+    let size = program.answer(first_bytes(line, p.held), text);
+    put_answer(out, p, first_bytes(text, size))
+}
+
+// Answers every line of the input. A proved loop has to end, so this one has a last turn, which no run comes to.
+pub fn answer_all<P: Program, R: Read, W: Write, E: Write>(
+    program: &mut P,
+    console: &mut Console<R, W, E>,
+    piece: &mut [u8],
+    line: &mut [u8],
+    text: &mut [u8],
+    out: &mut [u8],
+) -> Progress
+    requires text { P.room ≤ length text.old }
+    requires out { 2 * length text.old ≤ length out.old }
+    ensures { Ran P.answers (P.state program.old) (length line.old) (length out.old)
+        (P.state program.new) (standing_of piece.new line.new out.new result) }
+{
+    let mut p = begin();
+    for _ in 0..u64::MAX {
+        p = advance(console, piece, line, out, p);
+        if is_ended(p) {
+            return p;
+        }
+        p = answer(program, line, text, out, p);
+    }
+    p
 }

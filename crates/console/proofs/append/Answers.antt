@@ -9,9 +9,9 @@ use Rattle.console.proofs.append.Goals as goal
 
 pub returns : goal.returns
 returns c =
-    let from = c.smaller-from in
+    let from = c.min-from in
     let buffer = c.args.buffer.now in
-    let part = take c.smaller-n.result c.args.part.now in
+    let part = take c.min-n.result c.args.part.now in
     ap₂ buffer_of (ap (λ (k : ℕ). from.result + k) c.copy.ensures.count)
     (copied_at part buffer from.result (length buffer) refl (c.copy.ensures.octets ∙ rw take-length) (omega arith))
-    ∙ appended_is buffer c.args.used c.args.part.now from.ensures c.smaller-n.ensures
+    ∙ appended_is buffer c.args.used c.args.part.now from.ensures c.min-n.ensures

@@ -2,11 +2,13 @@
 use Rattle.std.proofs.Common.{ℕ, Bool, List, ◌≡◌, ◌≤◌, ◌+◌, ◌++◌, ◌&&◌, ◌||◌, min, sym, ap, ◌∙◌, length, take, drop}
 use Rattle.std.proofs.Common.{length-take, length-drop, arith}
 use mathlib.Core.Path.{ap₂}
+use borrow.Author.Tests.{lt-ltb, le-ltb}
 use lib.Dec.{ltb}
 use lib.Seq.{length-take-le}
 use Rattle.console.specs.Buffers.{appended, buffer_of}
 use Rattle.console.specs.Lines.{has_newline, past_newline, up_to_newline}
-use Rattle.console.specs.Turns.{line_ends, longer, standing_of}
+use Rattle.console.specs.Turns.{line_ends, longer, part_taken, standing_of}
+use Rattle.console.specs.declared.Progress.{Progress}
 use Rattle.console.proofs.BufferLaws.{filled_front, filled_used}
 use Rattle.console.proofs.LineLaws.{followed, front, front_le}
 use Rattle.console.proofs.TurnLaws.{has_some, next_place, was_taken}
@@ -54,24 +56,40 @@ pub overflow_add-result : goal.overflow_add-result
 overflow_add-result c =
     let p = c.args.p in
     let n = c.up_to_newline-n.ensures in
-    let within = inside c.args.piece.now p.size p.at c.smaller.ensures c.first_bytes-last.ensures n c.untaken-rest.ensures in
+    let within = inside c.args.piece.now p.size p.at c.min.ensures c.first_bytes-last.ensures n c.untaken-rest.ensures in
     omega arith
 
 pub overflow_add-result-2 : goal.overflow_add-result-2
 overflow_add-result-2 c =
     let p = c.args.p in
     let n = c.up_to_newline-n.ensures in
-    let within = inside c.args.piece.now p.size p.at c.smaller.ensures c.first_bytes-last.ensures n c.untaken-rest.ensures in
+    let within = inside c.args.piece.now p.size p.at c.min.ensures c.first_bytes-last.ensures n c.untaken-rest.ensures in
     omega arith
 
-pub returns-clause-standing : goal.returns-clause-standing
-returns-clause-standing c out =
-    let p = c.args.p in
-    let piece = c.args.piece.now in
-    let line = c.args.line.now in
-    let rest = drop p.at (take p.size piece) in
-    let n = c.up_to_newline-n.ensures in
-    was_taken (length line) (standing_of piece line out p)
-    (next piece p.size p.at c.smaller.ensures c.first_bytes-last.ensures n c.untaken-rest.ensures)
-    (held_line rest line p.held n c.untaken-rest.ensures c.append-held.ensures)
-    (ends rest line p.held n c.untaken-rest.ensures c.append-held.ensures p.over)
+-- the standing after it, whatever the code's test of the end of the line says
+taken : (piece line out : List ℕ) (p : Progress) {last rest now : List ℕ} {from n held : ℕ} {ready : Bool}
+    → from ≡ min p.at (length last) → last ≡ take p.size piece → n ≡ length (up_to_newline rest) → rest ≡ drop p.at (take p.size piece)
+    → buffer_of held now ≡ appended line p.held (take n rest)
+    → ready ≡ (ltb n (length rest) || p.over && ltb 0 held)
+    → standing_of piece now out
+    (record { at = from + n + 1; size = p.size; held = held; used = p.used; ready = ready; over = p.over; failed = p.failed })
+    ≡ part_taken (length line) (standing_of piece line out p)
+taken piece line out p f l e r kept whole =
+    let left = drop p.at (take p.size piece) in
+    was_taken (length line) (standing_of piece line out p) (next piece p.size p.at f l e r) (held_line left line p.held e r kept)
+    (whole ∙ ends left line p.held e r kept p.over)
+
+pub returns-then-n-rest-clause-standing : goal.returns-then-n-rest-clause-standing
+returns-then-n-rest-clause-standing c out =
+    taken c.args.piece.now c.args.line.now out c.args.p c.min.ensures c.first_bytes-last.ensures c.up_to_newline-n.ensures
+    c.untaken-rest.ensures c.append-held.ensures (rw (lt-ltb _ _ c.if-n-rest.true))
+
+pub returns-then-p-clause-standing : goal.returns-then-p-clause-standing
+returns-then-p-clause-standing c out =
+    taken c.args.piece.now c.args.line.now out c.args.p c.min.ensures c.first_bytes-last.ensures c.up_to_newline-n.ensures
+    c.untaken-rest.ensures c.append-held.ensures (rw (le-ltb _ _ c.if-n-rest.false, c.if-p.true))
+
+pub returns-else-p-clause-standing : goal.returns-else-p-clause-standing
+returns-else-p-clause-standing c out =
+    taken c.args.piece.now c.args.line.now out c.args.p c.min.ensures c.first_bytes-last.ensures c.up_to_newline-n.ensures
+    c.untaken-rest.ensures c.append-held.ensures (rw (le-ltb _ _ c.if-n-rest.false, c.if-p.false))
