@@ -5,18 +5,17 @@
 ghost use Rattle.std.specs.Prelude.{ℕ, ◌+◌, ◌-◌, ◌*◌, ◌≤◌, ◌<◌, true, List, [], ◌∷◌, ◌++◌, ◌≡◌, get_or, length, take};
 ghost use Rattle.octets.specs.Ascii.{ascii};
 ghost use Rattle.octets.specs.Octets.{zeros};
-ghost use Rattle.aes_tables.specs.RoundTable.{IsRoundTable};
 ghost use Rattle.hex_digits.specs.Hex.{hex};
 ghost use Rattle.fields.specs.Fields.{read_field_into};
 ghost use Rattle.aka.specs.Layout.{key_size, rand_size, sqn_size, amf_size};
 ghost use Rattle.functions.specs.Sets.{sets};
 ghost use Rattle.functions.specs.Challenge.{keys_of};
-ghost use Rattle.console.specs.Turns.{AnsweredIf, Gives, Ran, standing_of};
+ghost use Rattle.console.specs.Turns.{Gives, Ran, standing_of};
 ghost use Rattle.function_vectors.specs.Outputs.{Answers};
 ghost use Rattle.function_vectors.specs.Answer.{amf_at, k_at, line_size, macs_size, opc_at, rand_at, room, sqn_at};
 ghost use Rattle.function_vectors.specs.Answer.{answer_text, challenge_formed, keys_formed, line_answer, outputs_text};
 
-use console::Progress;
+use console::{Console, Program, Progress};
 use functions::{Keys, PreparedKeys, ResAk};
 use std::io::{Read, Write};
 
@@ -209,9 +208,8 @@ fn read_challenge(line: &[u8]) -> ReadChallenge
 
 // Writes the answer to a line to the front of `text`, which has room for it, and returns its length. The form of a line comes before its
 // set.
-fn write_answer(table: &[u32; 256], line: &[u8], text: &mut [u8]) -> usize
-    requires table { IsRoundTable table.now }
-    requires text { room ≤ length text.old }
+fn write_answer(line: &[u8], text: &mut [u8]) -> usize
+    requires { room ≤ length text.old }
     ensures { take result text.new ≡ answer_text line.now }
 {
     if line.len() != LINE_SIZE {
@@ -232,66 +230,51 @@ fn write_answer(table: &[u32; 256], line: &[u8], text: &mut [u8]) -> usize
     put_outputs(text, seven(keys, rand, sqn, amf))
 }
 
-// ---- the loop
+// ---- the program
 
-// Answers the line where it is whole. The buffer of answers has room for two.
-fn answer(table: &[u32; 256], line: &[u8], out: &mut [u8], p: Progress) -> Progress
-    requires table { IsRoundTable table.now }
-    requires out { 2 * room ≤ length out.old }
-    ensures { (piece : List ℕ) → AnsweredIf p.ready (Gives line_answer) (length out.old)
-        tt (standing_of piece line.now out.old p)
-        tt (standing_of piece line.now out.new result) }
-{
-    if !p.ready {
-        return p;
+// The program has no state: no line changes the answers to others.
+#[derive(Drop)]
+pub struct Vectors;
+
+impl Program for Vectors {
+    ghost State = { Unit {0} };
+
+    ghost state = { λ _. tt };
+
+    ghost answers = { Gives line_answer };
+
+    ghost room = { room };
+
+    #[tactic(auto, unfolding(crate::specs::Answer::line_answer))]
+    fn answer(&mut self, line: &[u8], text: &mut [u8]) -> usize {
+        write_answer(line, text)
     }
-    let mut text = [0u8; ROOM];
-    let n = write_answer(table, console::first_bytes(line, p.held), &mut text);
-    console::put_answer(out, p, console::first_bytes(&text, n))
 }
 
-// Answers every line of the input. A proved loop has to end, so this one counts its turns down, from a number that no run uses up.
+// Answers every line of the input. The buffer of answers has room for two.
 fn answer_all<R: Read, W: Write, E: Write>(
-    input: &mut R,
-    output: &mut W,
-    errors: &mut E,
-    table: &[u32; 256],
+    console: &mut Console<R, W, E>,
     piece: &mut [u8],
     line: &mut [u8],
     out: &mut [u8],
 ) -> Progress
-    requires table { IsRoundTable table.now }
     requires line { line_size < length line.old }
     requires out { 2 * room ≤ length out.old }
     ensures { Ran (Gives line_answer) tt (length line.old) (length out.old)
         tt (standing_of piece.new line.new out.new result) }
 {
-    let mut p = console::begin();
-    let mut turns = u64::MAX;
-    while turns > 0 {
-        p = console::advance(input, output, errors, piece, line, out, p);
-        if console::is_ended(p) {
-            return p;
-        }
-        p = answer(table, line, out, p);
-        turns -= 1;
-    }
-    p
+    console::answer_all(&mut Vectors, console, piece, line, &mut [0u8; ROOM], out)
 }
 
 // A line is held up to one byte more than a good line has, so that a longer one is seen to be longer.
 fn main(rt: HostRuntime) {
-    let table = aes::round_table();
+    let mut console = Console {
+        input: rt.stdin(),
+        output: rt.stdout(),
+        errors: rt.stderr(),
+    };
     let mut piece = io::large_buffer();
     let mut line = [0u8; LINE_SIZE + 1];
     let mut out = io::large_buffer();
-    answer_all(
-        &mut rt.stdin(),
-        &mut rt.stdout(),
-        &mut rt.stderr(),
-        &table,
-        &mut piece,
-        &mut line,
-        &mut out,
-    );
+    answer_all(&mut console, &mut piece, &mut line, &mut out);
 }
