@@ -12,31 +12,16 @@ pub fn field_end(line: &[u8], from: usize) -> usize
     requires { from ≤ length line.now }
     ensures { (result ≡ end_of line.now from) × (from ≤ result) × (result ≤ length line.now) }
 {
-    let mut i = from;
-    while i < line.len() {
-        if line[i] == b' ' {
-            return i;
-        }
-        i += 1;
-    }
-    i
+    let rest = &line[from..];
+    let size = rest.iter().position(|c| *c == b' ').unwrap_or(rest.len());
+    from + size
 }
 
 // Whether the line begins with the word.
 pub fn begins(line: &[u8], word: &[u8]) -> bool
     ensures { result ≡ begins_with word.now line.now }
 {
-    if line.len() < word.len() {
-        return false;
-    }
-    let mut i = 0;
-    while i < word.len() {
-        if line[i] != word[i] {
-            return false;
-        }
-        i += 1;
-    }
-    true
+    line.starts_with(word)
 }
 
 // Reads the field at a place of the line: a space and the hex of as many octets as `out` has. Whether it is there; where it is not,
@@ -45,19 +30,15 @@ pub fn hex_field(line: &[u8], at: usize, out: &mut [u8]) -> bool
     ensures answer { result ≡ is_hex_field (length out.old) at line.now }
     ensures octets { out.new ≡ read_field_into out.old at line.now }
 {
-    if line.len() <= at {
+    if line.len() <= at || line[at] != b' ' {
         return false;
     }
-    if line[at] != b' ' {
-        return false;
-    }
-    let start = at + 1;
+    let text = &line[at + 1..];
     let size = 2 * out.len();
-    if line.len() - start < size {
+    if text.len() < size {
         return false;
     }
-    let end = start + size;
-    hex_digits::read(&line[start..end], out)
+    hex_digits::read(&text[..size], out)
 }
 
 // Reads a decimal number of at most `MOST_DIGITS` digits and 64 bits.

@@ -1,13 +1,15 @@
 -- The laws of hex text: each of `hex` and `unhex` undoes the other, and what stands at a place. Assumes nothing.
 use Prim.Native.Nat.{ℕ, zero, suc, ◌+◌, ◌-◌, ◌*◌, ◌/◌, ◌%◌, ◌<◌, ◌≤◌}
-use mathlib.Core.Bool.{Bool, true, false, ◌&&◌, ◌||◌, and-eq-true_iff}
+use mathlib.Core.Bool.{Bool, true, false, ◌&&◌, ◌||◌, and-eq-true_iff, and-false}
 use mathlib.Core.List.{List, [], ◌∷◌}
 use mathlib.Core.Logic.{◌⊎◌, inl, inr, ⊎_elim, ⊎_map}
-use mathlib.Core.Path.{◌≡◌, refl, ap, ap₂}
+use mathlib.Core.Path.{◌≡◌, refl, sym, ap, ap₂}
 use native.Mathlib.Nat.{div-add-mod'}
 use native.Mathlib.Omega.{arith}
 use borrow.Author.Tests.{lt-ltb, le-ltb, le-leb, lt-leb, leb-true, eq-eqb, eqb-true}
 use lib.Arith.{digits_div, digits_mod}
+use Rattle.std.specs.List.{AllWithin, HoldsAt}
+use Rattle.std.specs.Bool.{MatchBool}
 use lib.Dec.{leb, eqb}
 use lib.ListN.{length, get_or}
 use Rattle.hex_digits.specs.Hex.{glyph, hex, is_hex_digit, all_hex_digits, is_hex, value, unhex}
@@ -141,3 +143,22 @@ back (suc n) (a ∷ b ∷ t) e d =
 pub hex_unhex : (n : ℕ) (t : List ℕ) → is_hex n t ≡ true → hex (unhex t) ≡ t
 unfolding is_hex
 hex_unhex n t e = let p = (and-eq-true_iff (eqb (length t) (2 * n)) (all_hex_digits t)).0 e in back n t (eqb-true _ _ p.0) p.1
+
+-- the test of every character, as the code has it
+all_true : (t : List ℕ) → ((k : ℕ) → k < length t → is_hex_digit (get_or t k 0) ≡ true) → true ≡ all_hex_digits t
+unfolding all_hex_digits
+all_true [] h = refl
+all_true (c ∷ t) h = rw (h 0 (omega arith)) (all_true t (λ k g. h (suc k) (omega arith)))
+
+one_false : (t : List ℕ) (k : ℕ) → k < length t → is_hex_digit (get_or t k 0) ≡ false → false ≡ all_hex_digits t
+unfolding all_hex_digits
+one_false [] k g e = absurd (omega arith)
+one_false (c ∷ t) zero g e = rw e refl
+one_false (c ∷ t) (suc k) g e = rw (← one_false t k (omega arith) e) (sym (and-false (is_hex_digit c)))
+
+pub decided : (t : List ℕ) (b : Bool)
+    → MatchBool b (AllWithin (λ c. is_hex_digit c ≡ true) t 0 (length t))
+    ((k : ℕ) × (k < length t) × HoldsAt (λ c. is_hex_digit c ≡ false) t k)
+    → b ≡ all_hex_digits t
+decided t true h = all_true t (λ k g. h k 0 (omega arith) g)
+decided t false h = one_false t h.0 h.1 (h.2 0)

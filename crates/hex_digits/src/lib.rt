@@ -10,13 +10,7 @@ ghost use Rattle.hex_digits.specs.Hex.{read_into, unhex, value as value_of, writ
 fn is_hex_digit(c: u8) -> bool
     ensures { result ≡ is_hex_digit c }
 {
-    if c <= b'9' {
-        return b'0' <= c;
-    }
-    if c < b'a' {
-        return false;
-    }
-    c <= b'f'
+    matches!(c, b'0'..=b'9' | b'a'..=b'f')
 }
 
 // The digit that `c` stands for.
@@ -26,10 +20,7 @@ fn value(c: u8) -> u8
     ensures value { result ≡ value_of c }
     ensures upper_bound { result < 16 }
 {
-    if c <= b'9' {
-        return c - b'0';
-    }
-    c - b'a' + 10
+    if c <= b'9' { c - b'0' } else { c - b'a' + 10 }
 }
 
 // The character of the digit `d`.
@@ -38,51 +29,37 @@ fn glyph(d: u8) -> u8
     requires { d < 16 }
     ensures { result ≡ glyph_of d }
 {
-    if d < 10 {
-        return b'0' + d;
-    }
-    b'a' + (d - 10)
+    if d < 10 { b'0' + d } else { b'a' + (d - 10) }
 }
 
 // Whether all of `text` is lower-case hex digits.
 fn all_hex_digits(text: &[u8]) -> bool
     ensures { result ≡ all_hex_digits text.now }
 {
-    let mut i = 0;
-    while i < text.len() {
-        if !is_hex_digit(text[i]) {
-            return false;
-        }
-        i += 1;
-    }
-    true
+    text.iter().all(|c| is_hex_digit(*c))
 }
 
-// Fills `out` with the octets of `text`, which is hex of so many.
+// Fills `out` with the octets of `text`, which is hex of so many. By the index, since each octet stands for two places of the other slice.
 fn decode(text: &[u8], out: &mut [u8])
     requires text_len { length text.now ≡ 2 * length out.old }
     requires text_value { all_hex_digits text.now ≡ true }
     ensures { out.new ≡ unhex text.now }
 {
-    let mut i = 0;
-    while i < out.len() {
+    for i in 0..out.len() {
         let high = value(text[2 * i]);
         let low = value(text[2 * i + 1]);
         out[i] = high * 16 + low;
-        i += 1;
     }
 }
 
-// Reads `out` from `text`. Whether `text` is the hex of as many octets as `out` has; where it is not, `out` is as it was.
+// Reads `out` from `text`. Whether `text` is the hex of as many octets as `out` has; where it is not, `out` is as it was. A bool says
+// that whole, as it does for `write`: there is one way to fail, and no value to hand back.
 #[tactic(auto, unfolding(crate::specs::Hex::is_hex, crate::specs::Hex::read_into))]
 pub fn read(text: &[u8], out: &mut [u8]) -> bool
     ensures answer { result ≡ is_hex (length out.old) text.now }
     ensures octets { out.new ≡ read_into out.old text.now }
 {
-    if text.len() != 2 * out.len() {
-        return false;
-    }
-    if !all_hex_digits(text) {
+    if text.len() != 2 * out.len() || !all_hex_digits(text) {
         return false;
     }
     decode(text, out);
@@ -94,12 +71,9 @@ fn encode(octets: &[u8], out: &mut [u8])
     requires { length out.old ≡ 2 * length octets.now }
     ensures { out.new ≡ hex octets.now }
 {
-    let mut i = 0;
-    while i < octets.len() {
-        let b = octets[i];
-        out[2 * i] = glyph(b / 16);
-        out[2 * i + 1] = glyph(b % 16);
-        i += 1;
+    for (i, b) in octets.iter().enumerate() {
+        out[2 * i] = glyph(*b / 16);
+        out[2 * i + 1] = glyph(*b % 16);
     }
 }
 

@@ -1,38 +1,19 @@
-use Rattle.std.proofs.Common.{ℕ, List, ◌≡◌, ◌≢◌, ◌≤◌, ◌<◌, ◌+◌, sym, ◌∙◌, length, get_or, arith}
-use borrow.Author.Tests.{eq-eqb, ne_eqb}
-use lib.ListN.{drop_of_length-le}
-use Rattle.octets.proofs.Parts.{drop_next}
-use Rattle.fields.specs.Fields.{space, field, end_of}
+-- The rest of the line ends at its first space.
+use Rattle.std.proofs.Common.{◌≡◌, ◌≤◌, ◌-◌, rules, arith, length, take, drop, length-drop}
+use lib.Seq.{take_all}
+use Rattle.fields.specs.Fields.{end_of, field}
+use Rattle.fields.proofs.FieldLaws.{first_space}
 use Rattle.fields.proofs.field_end.Goals as goal
 
-module _ (line : List ℕ) (i : ℕ) where
-  here : i < length line → get_or line i 0 ≡ space → i ≡ end_of line i
-  unfolding field end_of
-  here h e = rw (drop_next line i h, eq-eqb _ _ e) (omega arith)
-
-  later : i < length line → get_or line i 0 ≢ space → end_of line i ≡ end_of line (i + 1)
-  unfolding field end_of
-  later h n = rw (drop_next line i h, ne_eqb _ _ n) (omega arith)
-
-  over : length line ≤ i → i ≡ end_of line i
-  unfolding field end_of
-  over h = rw (drop_of_length-le line {i = i} h) (omega arith)
-
-pub returns-then-line-i-eq32 : goal.returns-then-line-i-eq32
-returns-then-line-i-eq32 c =
-    let l = c.loop-i in
-    (here c.args.line.now l.i (omega arith) c.if-line-i-eq32.true ∙ sym l.invariant.ends, omega arith, omega arith)
-
-pub loop-i-preserved : goal.loop-i-preserved
-loop-i-preserved c =
-    let l = c.loop-i in
-    record {
-      begun = omega arith;
-      within = omega arith;
-      ends = l.invariant.ends ∙ later c.args.line.now l.i (omega arith) c.if-line-i-eq32.false;
-    }
-
 pub returns : goal.returns
+unfolding end_of
 returns c =
-    let l = c.loop-i in
-    (over c.args.line.now l.i (omega arith) ∙ sym l.invariant.ends, omega arith, omega arith)
+    let line = c.args.line.now in
+    let from = c.args.from in
+    let rest = take (length line - from) (drop from line) in
+    let within : c.unwrap_or-size.result ≤ length rest = search rules in
+    let same : rest ≡ drop from line = take_all (length line - from) (drop from line) (simp length-drop (omega arith)) in
+    let size : c.unwrap_or-size.result ≡ length (field (drop from line)) =
+    rw same at (first_space rest c.unwrap_or-size.result within (search rules) (search rules)) in
+    let inside : c.unwrap_or-size.result ≤ length line - from = rw (same, length-drop) at within in
+    (omega arith, omega arith, omega arith)

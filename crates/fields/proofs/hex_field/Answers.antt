@@ -5,9 +5,11 @@ use mathlib.Core.Bool.{and-false}
 use borrow.Author.Tests.{eq-eqb, ne_eqb}
 use lib.Dec.{eqb}
 use lib.ListN.{get_or-eq_default}
+use lib.Seq.{take_all}
 use Rattle.octets.specs.Octets.{part}
 use Rattle.hex_digits.specs.Hex.{is_hex, read_into}
 use Rattle.fields.specs.Fields.{space, is_hex_field, octets_in, read_field_into}
+use Rattle.fields.proofs.hex_field.Goals.{then-line-at-via-then-line-at, then-line-at-via-else-line-at+then-line-at-ne32}
 use Rattle.fields.proofs.hex_field.Goals as goal
 
 module _ (out : List ℕ) (at : ℕ) (line : List ℕ) where
@@ -38,16 +40,16 @@ module _ (out : List ℕ) (at : ℕ) (line : List ℕ) where
 
 pub returns-then-line-at : goal.returns-then-line-at
 returns-then-line-at c =
-    let e = line_ends c.args.out.now c.args.at c.args.line.now c.if-line-at.true in
-    record { answer = sym e; octets = kept _ _ _ e }
+    let out = c.args.out.now in
+    let at = c.args.at in
+    let line = c.args.line.now in
+    let none : is_hex_field (length out) at line ≡ false =
+    elim c.then-line-at.branch [ then-line-at-via-then-line-at w ↦ line_ends out at line w.if-line-at.true | then-line-at-via-else-line-at+then-line-at-ne32 w ↦ no_space out at line w.if-line-at-ne32.true ] in
+    record { answer = sym none; octets = kept out at line none }
 
-pub returns-then-line-at-ne32 : goal.returns-then-line-at-ne32
-returns-then-line-at-ne32 c =
-    let e = no_space c.args.out.now c.args.at c.args.line.now c.if-line-at-ne32.true in
-    record { answer = sym e; octets = kept _ _ _ e }
-
-pub returns-then-line-start : goal.returns-then-line-start
-returns-then-line-start c =
+pub returns-then-text-size : goal.returns-then-text-size
+returns-then-text-size c =
+    let x = c.if-text-size.true in
     let e = too_short c.args.out.now c.args.at c.args.line.now (omega arith) in
     record { answer = sym e; octets = kept _ _ _ e }
 
@@ -56,7 +58,8 @@ returns c =
     let out = c.args.out.now in
     let at = c.args.at in
     let line = c.args.line.now in
-    let size : at + 1 + 2 * length out - (at + 1) ≡ 2 * length out = omega arith in
-    let text = ap (λ (n : ℕ). take n (drop (at + 1) line)) size in
+    let n = 2 * length out in
+    let text : take n (take (length line - (at + 1)) (drop (at + 1) line)) ≡ part (at + 1) n line =
+    ap (take n) (take_all (length line - (at + 1)) (drop (at + 1) line) (simp length-drop (omega arith))) in
     let both = there out at line c.if-line-at-ne32.false text c.read.ensures.answer c.read.ensures.octets in
     record { answer = both.0; octets = both.1 }

@@ -18,14 +18,11 @@ loop-i-preserved c =
     let size : length (unhex t) ≡ length c.args.out.now = length_unhex _ t c.requires.text_len in
     let octet : c.value-high.result * 16 + c.value-low.result ≡ get_or (unhex t) l.i 0 =
     ap₂ (λ (a b : ℕ). a * 16 + b) c.value-high.ensures.value c.value-low.ensures.value ∙ sym (unhex_at t l.i (omega arith)) in
-    record {
-      within = omega arith;
-      octets = paste_next _ 0 (unhex t) l.i l.invariant.octets (omega arith) octet (omega arith) (omega arith);
-    }
+    paste_next _ 0 (unhex t) l.i l.invariant (omega arith) octet (omega arith) (omega arith)
 
 pub returns : goal.returns
 returns c =
     let l = c.loop-i in
     let t = c.args.text.now in
     let done : l.i ≡ length c.args.out.now = omega arith in
-    l.invariant.octets ∙ rw done (paste_all _ (unhex t) _ (length_unhex _ t c.requires.text_len) refl)
+    l.invariant ∙ rw done (paste_all _ (unhex t) _ (length_unhex _ t c.requires.text_len) refl)
