@@ -23,6 +23,8 @@ pub short_enough : (most : ℕ) (text : List ℕ) → length text ≤ most → i
 unfolding is_number
 short_enough most text h = rw (le-leb (length text) most h)
 
+pub ruleset numbers = (too_long, short_enough)
+
 pub no_digits : (most : ℕ) → is_number most [] ≡ false
 unfolding is_number is_decimal
 no_digits most = and-false (leb 0 most)

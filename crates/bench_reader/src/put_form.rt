@@ -14,7 +14,7 @@ const SEQHE_DIGITS: usize = 13;
 const NEXT_DIGITS: usize = 2;
 
 // Reads a decimal number of at most so many digits.
-#[tactic(auto, using(crate::proofs::PutForms::too_long, crate::proofs::PutForms::short_enough), unfolding(fields::specs::Fields::number_in))]
+#[tactic(auto, using(crate::proofs::PutForms::numbers), unfolding(fields::specs::Fields::number_in))]
 fn number(text: &[u8], most: usize) -> Option<u64>
     ensures { result ≡ cond (is_number most text.now) (Some (decimal text.now)) None }
 {
