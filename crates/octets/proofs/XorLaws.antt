@@ -93,7 +93,8 @@ summed_next i x y e h g = rw (e, add-one i) (sum_next i x y h g)
 
 pub summed_all : (x y : Octets) (n : ℕ) → length x ≡ n → length y ≡ n → summed n x y ≡ xor x y
 unfolding summed
-summed_all x y n h g = rw (take_all n x (omega arith), take_all n y (omega arith), drop_of_length-le x {i = n} (omega arith)) (append-nil (xor x y))
+summed_all x y n h g =
+    rw (take_all n x (omega arith), take_all n y (omega arith), drop_of_length-le x {i = n} (omega arith)) (append-nil (xor x y))
 
 pub summed_none : (x y : Octets) → x ≡ summed 0 x y
 unfolding xor summed

@@ -45,61 +45,6 @@ pub fn put(buffer: &mut [u8], at: usize, part: &[u8])
     copy(part, &mut buffer[at..]);
 }
 
-// 16 lent octets.
-pub fn sixteen(s: &[u8]) -> [u8; 16]
-    requires { length s.now ≡ 16 }
-    ensures { result ≡ s.now }
-{
-    let mut taken = [0u8; 16];
-    copy(s, &mut taken);
-    taken
-}
-
-// 14 lent octets.
-pub fn fourteen(s: &[u8]) -> [u8; 14]
-    requires { length s.now ≡ 14 }
-    ensures { result ≡ s.now }
-{
-    let mut taken = [0u8; 14];
-    copy(s, &mut taken);
-    taken
-}
-
-// Eight octets from `at` on.
-pub fn eight(x: [u8; 16], at: usize) -> [u8; 8]
-    requires { at ≤ 8 }
-    ensures { result ≡ part at 8 x }
-{
-    let mut taken = [0u8; 8];
-    copy(&x[at..at + 8], &mut taken);
-    taken
-}
-
-// Six octets from `at` on.
-pub fn six(x: [u8; 16], at: usize) -> [u8; 6]
-    requires { at ≤ 10 }
-    ensures { result ≡ part at 6 x }
-{
-    let mut taken = [0u8; 6];
-    copy(&x[at..at + 6], &mut taken);
-    taken
-}
-
-pub fn xor8(x: [u8; 8], y: [u8; 8]) -> [u8; 8]
-    ensures { result ≡ xor_of x y }
-{
-    [
-        x[0] ^ y[0],
-        x[1] ^ y[1],
-        x[2] ^ y[2],
-        x[3] ^ y[3],
-        x[4] ^ y[4],
-        x[5] ^ y[5],
-        x[6] ^ y[6],
-        x[7] ^ y[7],
-    ]
-}
-
 // N lent octets as an array.
 pub fn array<const N: usize>(s: &[u8]) -> [u8; N]
     requires { length s.now ≡ N }

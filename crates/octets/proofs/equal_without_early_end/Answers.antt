@@ -18,4 +18,5 @@ loop-a-preserved c =
 pub returns : goal.returns
 returns c =
     let l = c.loop-a in
-    sym (l.invariant.decides ∙ compare_end l.differences (empty_from_Zip l.a-iterator c.next.new.self _ c.in-None.is c.next.ensures.steps l.invariant.size))
+    let ended = empty_from_Zip l.a-iterator c.next.new.self _ c.in-None.is c.next.ensures.steps l.invariant.size in
+    sym (l.invariant.decides ∙ compare_end l.differences ended)

@@ -1,9 +1,0 @@
--- `xor8` is xor, octet by octet.
-use Rattle.std.proofs.Common.{ap₂}
-use Rattle.octets.specs.Octets.{xor}
-use Rattle.octets.proofs.Strings.{listed_all}
-use Rattle.octets.proofs.xor8.Goals as goal
-
-pub returns : goal.returns
-unfolding xor
-returns c = ap₂ xor (listed_all c.args.x 8 c.well_formed.0.1.0.1) (listed_all c.args.y 8 c.well_formed.1.0.1.0.1)
