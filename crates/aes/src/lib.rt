@@ -94,7 +94,8 @@ impl Cipher {
 
     // One column of a round: its octets come from four columns of the state, `k` is its word of the round key.
     fn column(&self, a: u32, b: u32, c: u32, d: u32, k: u32) -> u32
-        ensures { encode 4 result ≡ xor (mix_column (sbox (octet 0 a)) (sbox (octet 1 b)) (sbox (octet 2 c)) (sbox (octet 3 d))) (encode 4 k) }
+        ensures { encode 4 result
+            ≡ xor (mix_column (sbox (octet 0 a)) (sbox (octet 1 b)) (sbox (octet 2 c)) (sbox (octet 3 d))) (encode 4 k) }
     {
         self.entry(a >> 24)
             ^ aes_words::left(self.entry(b >> 16), 3)

@@ -3,7 +3,8 @@
 // contract can say lies in `write_due` and `fetch`: what a read brought, whether a write arrived, and that it was of the bytes due.
 #![tactic(auto)]
 
-ghost use Rattle.std.specs.Prelude.{ℕ, ◌*◌, ◌/◌, ◌≤◌, Bool, true, false, ◌&&◌, ◌||◌, not, cond, List, ◌≡◌, eqb, ltb, length, take, drop, IfOk};
+ghost use Rattle.std.specs.Prelude.{ℕ, ◌*◌, ◌/◌, ◌≤◌, Bool, true, false, ◌&&◌, ◌||◌, not, cond, List, ◌≡◌};
+ghost use Rattle.std.specs.Prelude.{eqb, ltb, length, take, drop, IfOk};
 ghost use Rattle.io.specs.Counts.{IsPrefixLen};
 ghost use Rattle.console.specs.Buffers.{appended, buffer_of};
 ghost use Rattle.console.specs.Lines.{up_to_newline};

@@ -1,5 +1,6 @@
 -- The fields of a line: words, decimal numbers, octets in hex. Assumes nothing: these are definitions.
-use Rattle.std.specs.Prelude.{ℕ, ◌+◌, ◌-◌, ◌*◌, ◌^◌, Bool, true, false, ◌&&◌, cond, Option, Some, None, List, [], ◌∷◌, map, eqb, leb, ltb, length, get_or, drop}
+use Rattle.std.specs.Prelude.{ℕ, ◌+◌, ◌-◌, ◌*◌, ◌^◌, Bool, true, false, ◌&&◌, cond, Option, Some, None}
+use Rattle.std.specs.Prelude.{List, [], ◌∷◌, map, eqb, leb, ltb, length, get_or, drop}
 use Rattle.octets.specs.Octets.{Octets, number, part}
 use Rattle.hex_digits.specs.Hex.{is_hex, unhex}
 

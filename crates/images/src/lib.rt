@@ -1,6 +1,6 @@
-// What the packed images of USIM and AuC share: the head, edition and set in 4 bits each, K and OPc, and writing and reading an image of any
-// format. What the two answer is said once for both in specs/Images, and proofs/RoundTrips shows once that each gives back what the other
-// took.
+// What the packed images of USIM and AuC share: the head, edition and set in 4 bits each, K and OPc, and writing and reading an image of
+// any format. What the two answer is said once for both in specs/Images, and proofs/RoundTrips shows once that each gives back what the
+// other took.
 #![tactic(auto)]
 
 ghost use Rattle.std.specs.Prelude.{ℕ, true, ◌++◌, ◌≡◌, ◌<◌, ◌≤◌, length, drop};

@@ -8,8 +8,8 @@ ghost use Rattle.std.specs.Prelude.{◌≡◌, IfOk};
 ghost use Rattle.functions.specs.Challenge.{keys_of};
 ghost use Rattle.aka.specs.Refusals.{refusal_in};
 ghost use Rattle.interface_answers.specs.Results.{returned_of};
-ghost use Rattle.vetrhoss.specs.Interface.{new_keys_refusal, opc_call, new_usim_call, new_auc_call, challenge_call, order_call, resync_call};
-ghost use Rattle.vetrhoss.specs.Interface.{vector_at_call, triplets_call};
+ghost use Rattle.vetrhoss.specs.Interface.{new_keys_refusal, opc_call, new_usim_call, new_auc_call, challenge_call};
+ghost use Rattle.vetrhoss.specs.Interface.{order_call, resync_call, vector_at_call, triplets_call};
 
 use aka::Refusal;
 use functions::Keys;

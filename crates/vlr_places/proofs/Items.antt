@@ -66,7 +66,8 @@ module _ (place : Octets) where
   unfolding vector_run triplet_run read_triplet
   kc_is = go (kind_in place)
     where
-      go : (kind : Kind) → cond (is_kind Triplet kind) (part (kind_size + kc_at) kc_size place) (zeros kc_size) ≡ (run_of kind (item_in place)).kc
+      go : (kind : Kind)
+          → cond (is_kind Triplet kind) (part (kind_size + kc_at) kc_size place) (zeros kc_size) ≡ (run_of kind (item_in place)).kc
       go vector = refl
       go triplet = of_item kc_at kc_size
 
