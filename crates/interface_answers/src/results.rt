@@ -4,7 +4,7 @@ ghost use Rattle.interface_answers.specs.Results.{both as both_of, returned_of};
 
 use aka::Refusal;
 
-// The causes of TS 24.008.
+// The causes of TS 24.008. They are numbers, and no enum, since the C calls return them.
 pub const MAC_FAILURE: u64 = 20;
 
 pub const SYNCH_FAILURE: u64 = 21;

@@ -14,7 +14,7 @@ use images::ImageFormat;
 use usim::Verdict;
 use usim_image::UsimFormat;
 
-// Whether the buffers for RES, CK, IK and AUTS have their sizes.
+// Whether the buffers for RES, CK, IK and AUTS have their sizes. The four stay apart here, as `vetrhoss_challenge` has them in C.
 pub fn are_sized(res: &[u8], ck: &[u8], ik: &[u8], auts: &[u8]) -> bool
     ensures { result ≡ answer_sized res.now ck.now ik.now auts.now }
 {

@@ -70,6 +70,7 @@ fn sizes_fit(batch: usize, buffer: usize) -> bool
 }
 
 // The triplets of a batch of one to five vectors, into a buffer of their size.
+#[tactic(auto, using(aka::proofs::Triplets::fits), unfolding(aka::specs::Triplets::convert))]
 pub fn convert(batch: &[u8], triplets: &mut [u8]) -> Result<(), Refusal>
     ensures { converted_of (refusal_in result) triplets.new ≡ converted batch.now triplets.old }
 {

@@ -180,6 +180,7 @@ fn challenge(
         return Err(Refusal::Length);
     }
     let a = usim::challenge(usim, rand, autn);
+    // A refusal leaves the buffers as they were.
     if let Verdict::Refused(number) = a.verdict {
         return Ok(number as u64);
     }
@@ -227,6 +228,7 @@ pub extern "C" fn vetrhoss_resynchronise(
     results::returned(resynchronise(image, count, rand, auts, rands, batch))
 }
 
+// Three lines like those of `order`: a function that takes what to ask of the record is longer than they are.
 #[tactic(auto, unfolding(crate::specs::Interface::on_image))]
 fn resynchronise(
     image: &mut [u8],

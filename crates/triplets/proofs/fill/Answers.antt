@@ -10,7 +10,7 @@ use Rattle.triplets.proofs.fill.Goals as goal
 
 pub loop-k-init : goal.loop-k-init
 unfolding joined
-loop-k-init c = record { within = omega arith; filled = record { size = refl; is = refl } }
+loop-k-init c = record { size = refl; is = refl }
 
 -- the triplet of the vector at place k
 module _ (batch made : Octets) (n k : ℕ)
@@ -24,11 +24,6 @@ module _ (batch made : Octets) (n k : ℕ)
   one_size : length batch ≡ vector_size * n → k < n → length made ≡ triplet_size
   one_size whole lt = ap length one ∙ length_each batch n whole k lt
 
-pub put-requires : goal.put-requires
-put-requires c =
-    let size = one_size c.args.batch.now c.triplet-made.result c.args.n c.loop-k.k c.triplet-made.ensures c.requires.1 (omega arith) in
-    omega (arith, size)
-
 pub loop-k-preserved : goal.loop-k-preserved
 loop-k-preserved c =
     let batch = c.args.batch.now in
@@ -36,16 +31,13 @@ loop-k-preserved c =
     let k = c.loop-k.k in
     let size = one_size batch made c.args.n k c.triplet-made.ensures c.requires.1 (omega arith) in
     let further : triplet_size * k + triplet_size ≡ triplet_size * (k + 1) = omega arith in
-    let next = put_next made triplet_size c.loop-k.invariant.filled (rw size at c.put.ensures) (c.put.auto.buffer ∙ c.loop-k.auto.triplets)
+    let next = put_next made triplet_size c.loop-k.invariant (rw size at c.put.ensures) (c.put.auto.buffer ∙ c.loop-k.auto.triplets)
     (omega arith) in
     let more = ap (λ (x : Octets). triplets_of batch k ++ x) (one batch made c.args.n k c.triplet-made.ensures) ∙ sym (joined_next _ k) in
-    record {
-      within = omega arith;
-      filled = subst₂ (λ (d : Octets) (m : ℕ). Filled c.args.triplets.now d m c.put.new.buffer) more further next;
-    }
+    subst₂ (λ (d : Octets) (m : ℕ). Filled c.args.triplets.now d m c.put.new.buffer) more further next
 
 pub returns : goal.returns
 returns c =
     let l = c.loop-k in
     let end : l.k ≡ c.args.n = omega arith in
-    filled_all l.invariant.filled (omega (arith, end, c.requires.2)) ∙ ap (triplets_of c.args.batch.now) end
+    filled_all l.invariant (omega (arith, end, c.requires.2)) ∙ ap (triplets_of c.args.batch.now) end
