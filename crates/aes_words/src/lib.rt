@@ -81,21 +81,3 @@ impl From<Block> for [u8; 16] {
         octets::array(columns.as_flattened())
     }
 }
-
-pub fn xor(p: Block, q: Block) -> Block
-    ensures { octets_of result ≡ xor_octets (octets_of p) (octets_of q) }
-{
-    p ^ q
-}
-
-pub fn from_octets(x: [u8; 16]) -> Block
-    ensures { octets_of result ≡ x }
-{
-    x.into()
-}
-
-pub fn to_octets(s: Block) -> [u8; 16]
-    ensures { result ≡ octets_of s }
-{
-    s.into()
-}

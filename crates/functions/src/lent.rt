@@ -6,6 +6,7 @@ ghost use Rattle.functions.specs.PreparedRand.{outputs_from as outputs_of_prepar
 
 use crate::{Challenge, Keys, PreparedRand, ResAk};
 use aes::Cipher;
+use aes_words::Block;
 
 // A challenge as a prepared RAND.
 fn taken<'a>(cipher: &'a Cipher, c: Challenge) -> PreparedRand<'a>
@@ -30,7 +31,7 @@ pub fn schedule(keys: Keys) -> [u32; 44]
         return [0; 44];
     }
     let k = keys.k;
-    aes_schedule::key_expansion(aes_words::from_octets(k))
+    aes_schedule::key_expansion(Block::from(k))
 }
 
 // A RAND taken up under the keys, with their schedule.
@@ -46,7 +47,7 @@ pub fn prepare(
     let set = keys.set;
     let k = keys.k;
     let o = keys.opc;
-    let opc = aes_words::from_octets(o);
+    let opc = Block::from(o);
     if set == 0 {
         let x = test_set::x(k, rand);
         return Challenge { set, opc, base: x };
@@ -55,7 +56,7 @@ pub fn prepare(
         table: *table,
         schedule: *schedule,
     };
-    let temp = milenage::temp(&cipher, opc, aes_words::from_octets(rand));
+    let temp = milenage::temp(&cipher, opc, Block::from(rand));
     Challenge {
         set,
         opc,

@@ -15,7 +15,7 @@ unfolding base_of
 returns-then-set-eq0 c =
     record {
       set = refl;
-      opc = c.from_octets-opc.ensures;
+      opc = c.from-opc.ensures;
       base = c.x-x.ensures ∙ rw (eq-eqb _ _ c.if-set-eq0.true);
       under = c.requires.1;
     }
@@ -25,8 +25,8 @@ unfolding base_of schedule_of aes
 returns c =
     let keys = c.args.keys in
     let left : eqb keys.set 0 ≡ false = ne_eqb _ _ c.if-set-eq0.false in
-    let opc = c.from_octets-opc in
-    let challenge = c.from_octets in
+    let opc = c.from-opc in
+    let challenge = c.from in
     record {
       set = refl;
       opc = opc.ensures;

@@ -13,4 +13,4 @@ pub returns : goal.returns
 unfolding schedule_of
 returns c =
     rw (ne_eqb _ _ c.if-set-eq0.false)
-    (c.key_expansion.ensures ∙ ap key_expansion c.from_octets.ensures)
+    (c.key_expansion.ensures ∙ ap key_expansion c.from.ensures)
