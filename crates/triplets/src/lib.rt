@@ -49,7 +49,8 @@ fn triplet(vector: &[u8]) -> [u8; aka::TRIPLET_SIZE]
     triplet
 }
 
-// Fills a buffer with the triplets of n vectors.
+// Fills a buffer with the triplets of n vectors. By place, and not by `chunks_exact_mut`: of what was written through its pieces a proof
+// keeps the length alone.
 fn fill(batch: &[u8], n: usize, triplets: &mut [u8])
     requires { (n ≤ most_vectors) × (length batch.now ≡ vector_size * n) × (length triplets.old ≡ triplet_size * n) }
     ensures { triplets.new ≡ triplets_of batch.now n }
