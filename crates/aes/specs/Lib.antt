@@ -1,2 +1,1 @@
 pub mod Cipher
-pub mod RoundTable

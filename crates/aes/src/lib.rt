@@ -1,28 +1,24 @@
 // AES-128 of FIPS 197: the cipher of one block.
 //
-// The state is four words, its columns, and a round is sixteen look-ups in one table. A `Cipher` holds the table and a key schedule. It
-// is made once for a key, and lent for each block.
+// The state is four words, its columns, and a round is sixteen look-ups in one table, `aes_tables::round_table`. A `Cipher` holds the key
+// schedule. It is made once for a key, and lent for each block.
 #![tactic(auto)]
 
 ghost use Rattle.std.specs.Prelude.{◌≡◌, [], ◌∷◌, ◌≤◌};
 ghost use Rattle.octets.specs.Octets.{xor, encode};
 ghost use Rattle.aes_tables.specs.Sbox.{sbox};
-ghost use Rattle.aes_tables.specs.RoundTable.{IsRoundTable, contribution};
+ghost use Rattle.aes_tables.specs.RoundTable.{contribution};
 ghost use Rattle.aes_words.specs.Words.{octet};
 ghost use Rattle.aes_words.specs.Block.{octets_of};
 ghost use Rattle.aes_schedule.specs.KeyExpansion.{key_expansion};
-ghost use Rattle.aes.specs.RoundTable.{IsRoundTable-prop};
 ghost use Rattle.aes.specs.Cipher.{mix_column, add_round_key, one_round, last_round, cipher};
 
-pub use aes_tables::round_table;
 use aes_words::Block;
 
 // The cipher under one key. The schedule may be any 44 words: what a method promises is said of these.
 #[derive(Drop)]
 pub struct Cipher {
-    pub table: [u32; 256],
     pub schedule: [u32; 44],
-    pub ghost is_round_table: { IsRoundTable table } by { IsRoundTable-prop table },
 }
 
 impl Cipher {
@@ -30,16 +26,8 @@ impl Cipher {
     pub fn new(key: Block) -> Self
         ensures { result.schedule ≡ key_expansion (octets_of key) }
     {
-        Cipher::with_schedule(aes_schedule::key_expansion(key))
-    }
-
-    // The cipher with a key schedule, whatever it holds.
-    pub fn with_schedule(schedule: [u32; 44]) -> Self
-        ensures { result.schedule ≡ schedule }
-    {
         Cipher {
-            table: aes_tables::round_table(),
-            schedule,
+            schedule: aes_schedule::key_expansion(key),
         }
     }
 
@@ -73,10 +61,10 @@ impl Cipher {
         let w = &self.schedule;
         let i = 4 * round;
         Block {
-            a: self.column(s.a, s.b, s.c, s.d, w[i]),
-            b: self.column(s.b, s.c, s.d, s.a, w[i + 1]),
-            c: self.column(s.c, s.d, s.a, s.b, w[i + 2]),
-            d: self.column(s.d, s.a, s.b, s.c, w[i + 3]),
+            a: column(s.a, s.b, s.c, s.d, w[i]),
+            b: column(s.b, s.c, s.d, s.a, w[i + 1]),
+            c: column(s.c, s.d, s.a, s.b, w[i + 2]),
+            d: column(s.d, s.a, s.b, s.c, w[i + 3]),
         }
     }
 
@@ -85,40 +73,41 @@ impl Cipher {
     {
         let w = &self.schedule;
         Block {
-            a: self.last_column(s.a, s.b, s.c, s.d, w[40]),
-            b: self.last_column(s.b, s.c, s.d, s.a, w[41]),
-            c: self.last_column(s.c, s.d, s.a, s.b, w[42]),
-            d: self.last_column(s.d, s.a, s.b, s.c, w[43]),
+            a: last_column(s.a, s.b, s.c, s.d, w[40]),
+            b: last_column(s.b, s.c, s.d, s.a, w[41]),
+            c: last_column(s.c, s.d, s.a, s.b, w[42]),
+            d: last_column(s.d, s.a, s.b, s.c, w[43]),
         }
     }
+}
 
-    // One column of a round: its octets come from four columns of the state, `k` is its word of the round key.
-    fn column(&self, a: u32, b: u32, c: u32, d: u32, k: u32) -> u32
-        ensures { encode 4 result
-            ≡ xor (mix_column (sbox (octet 0 a)) (sbox (octet 1 b)) (sbox (octet 2 c)) (sbox (octet 3 d))) (encode 4 k) }
-    {
-        self.entry(a >> 24)
-            ^ aes_words::left(self.entry(b >> 16), 3)
-            ^ aes_words::left(self.entry(c >> 8), 2)
-            ^ aes_words::left(self.entry(d), 1)
-            ^ k
-    }
+// One column of a round: its octets come from four columns of the state, `k` is its word of the round key.
+fn column(a: u32, b: u32, c: u32, d: u32, k: u32) -> u32
+    ensures { encode 4 result
+        ≡ xor (mix_column (sbox (octet 0 a)) (sbox (octet 1 b)) (sbox (octet 2 c)) (sbox (octet 3 d))) (encode 4 k) }
+{
+    entry(a >> 24)
+        ^ aes_words::left(entry(b >> 16), 3)
+        ^ aes_words::left(entry(c >> 8), 2)
+        ^ aes_words::left(entry(d), 1)
+        ^ k
+}
 
-    // The same in the last round, which does not mix the columns. The S-box's value is the second octet of the table's word.
-    fn last_column(&self, a: u32, b: u32, c: u32, d: u32, k: u32) -> u32
-        ensures { encode 4 result ≡ xor (sbox (octet 0 a) ∷ sbox (octet 1 b) ∷ sbox (octet 2 c) ∷ sbox (octet 3 d) ∷ []) (encode 4 k) }
-    {
-        aes_words::word(
-            aes_words::second(self.entry(a >> 24)),
-            aes_words::second(self.entry(b >> 16)),
-            aes_words::second(self.entry(c >> 8)),
-            aes_words::second(self.entry(d)),
-        ) ^ k
-    }
-    // The table's word for the last octet of `x`.
-    fn entry(&self, x: u32) -> u32
-        ensures { encode 4 result ≡ contribution (sbox (octet 3 x)) }
-    {
-        self.table[(x % 256) as usize]
-    }
+// The same in the last round, which does not mix the columns. The S-box's value is the second octet of the table's word.
+fn last_column(a: u32, b: u32, c: u32, d: u32, k: u32) -> u32
+    ensures { encode 4 result ≡ xor (sbox (octet 0 a) ∷ sbox (octet 1 b) ∷ sbox (octet 2 c) ∷ sbox (octet 3 d) ∷ []) (encode 4 k) }
+{
+    aes_words::word(
+        aes_words::second(entry(a >> 24)),
+        aes_words::second(entry(b >> 16)),
+        aes_words::second(entry(c >> 8)),
+        aes_words::second(entry(d)),
+    ) ^ k
+}
+
+// The round table's word for the last octet of `x`.
+fn entry(x: u32) -> u32
+    ensures { encode 4 result ≡ contribution (sbox (octet 3 x)) }
+{
+    aes_tables::round_table()[(x % 256) as usize]
 }

@@ -1,6 +1,7 @@
 // The two constant tables of AES: the S-box of FIPS 197, and the round table made from it.
 //
-// A constant is laid down anew wherever it is read, so a table is taken once, near the top of a call, and lent from there.
+// A constant is laid down anew wherever it is read, so the S-box is taken once for a key. The round table, which every block reads, is a
+// static, and lies in memory once.
 #![tactic(auto)]
 
 ghost use Rattle.aes_tables.specs.Sbox.{IsSbox};
@@ -25,7 +26,7 @@ const SBOX: [u8; 256] = [
     0x8c, 0xa1, 0x89, 0x0d, 0xbf, 0xe6, 0x42, 0x68, 0x41, 0x99, 0x2d, 0x0f, 0xb0, 0x54, 0xbb, 0x16,
 ];
 
-const ROUND_TABLE: [u32; 256] = [
+static ROUND_TABLE: [u32; 256] = [
     0xc66363a5, 0xf87c7c84, 0xee777799, 0xf67b7b8d, 0xfff2f20d, 0xd66b6bbd, 0xde6f6fb1, 0x91c5c554,
     0x60303050, 0x02010103, 0xce6767a9, 0x562b2b7d, 0xe7fefe19, 0xb5d7d762, 0x4dababe6, 0xec76769a,
     0x8fcaca45, 0x1f82829d, 0x89c9c940, 0xfa7d7d87, 0xeffafa15, 0xb25959eb, 0x8e4747c9, 0xfbf0f00b,
@@ -68,8 +69,8 @@ pub fn sbox() -> [u8; 256]
 }
 
 // The octets 2s, s, s, 3s of each s of the S-box, the first the most significant.
-pub fn round_table() -> [u32; 256]
-    ensures { IsRoundTable result }
+pub fn round_table() -> &'static [u32; 256]
+    ensures { IsRoundTable result.now }
 {
-    ROUND_TABLE
+    &ROUND_TABLE
 }

@@ -1,5 +1,4 @@
 pub mod Prepared
-pub mod Outputs
 pub mod Family
 pub mod Protocol
 pub mod Witnesses

@@ -8,8 +8,6 @@
 // A set above 1 is the caller's to refuse; here it counts as MILENAGE.
 #![tactic(auto)]
 
-mod lent;
-
 ghost use Rattle.std.specs.Prelude.{◌≡◌, ◌≤◌};
 ghost use Rattle.functions.specs.Sets.{is_set, sets};
 ghost use Rattle.functions.specs.Challenge.{keys_of, IsSchedule};
@@ -17,17 +15,8 @@ ghost use Rattle.functions.specs.PreparedRand.{outputs_from, mac_at, Prepared};
 
 use aes::Cipher;
 use aes_words::Block;
-pub use lent::{f1, f1s, f2_f5, f3, f4, f5s, prepare, schedule};
 
-// The same for callers that lend the round table and the key schedule: see `lent`.
-#[derive(Clone, Copy, Drop)]
-pub struct Challenge {
-    pub set: u8,
-    pub opc: Block,
-    pub base: Block,
-}
-
-// What USIM and AuC hold of a subscriber: the function set, K and OPc.
+// What USIM and AuC hold of a subscriber: the function set, K and OPc. The set is a number, since a caller may hand in any.
 #[derive(Clone, Copy, Drop)]
 pub struct Keys {
     pub set: u8,
@@ -76,7 +65,7 @@ impl PreparedKeys {
         ensures { result.keys ≡ keys }
     {
         let cipher = if keys.set == 0 {
-            Cipher::with_schedule([0; 44])
+            Cipher { schedule: [0; 44] }
         } else {
             Cipher::new(keys.k.into())
         };

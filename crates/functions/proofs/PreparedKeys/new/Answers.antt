@@ -11,7 +11,7 @@ pub invariant_of-result : goal.invariant_of-result
 unfolding schedule_of
 invariant_of-result c = record {
   made = elim c.if-keys-eq0.branch [
-    | then-keys-eq0 w ↦ ap (λ (x : Cipher). x.schedule) w.cipher-is ∙ w.with_schedule-cipher.ensures ∙ rw (eq-eqb _ _ w.if-keys-eq0.true)
+    | then-keys-eq0 w ↦ ap (λ (x : Cipher). x.schedule) w.cipher-is ∙ rw (eq-eqb _ _ w.if-keys-eq0.true)
     | else-keys-eq0 w ↦
         ap (λ (x : Cipher). x.schedule) w.cipher-is ∙ w.new-cipher.ensures ∙ ap key_expansion w.into.ensures
         ∙ rw (ne_eqb _ _ w.if-keys-eq0.false)

@@ -2,8 +2,8 @@
 use Rattle.std.proofs.Common.{arith}
 use Rattle.octets.specs.Octets.{digits}
 use Rattle.aes_tables.specs.RoundTable.{IsRoundTable}
-use Rattle.aes.proofs.Cipher.entry.Goals as goal
+use Rattle.aes.proofs.entry.Goals as goal
 
 pub returns : goal.returns
 unfolding digits IsRoundTable
-returns c = c.args.self.now.is_round_table _ (omega arith)
+returns c = c.round_table.ensures _ (omega arith)

@@ -6,7 +6,7 @@ use Rattle.aes_tables.specs.Sbox.{sbox}
 use Rattle.aes_tables.specs.RoundTable.{contribution}
 use Rattle.aes_words.specs.Words.{octet}
 use Rattle.aes_words.proofs.Turns.{shifted2, shifted3}
-use Rattle.aes.proofs.Cipher.last_column.Goals as goal
+use Rattle.aes.proofs.last_column.Goals as goal
 
 -- the second octet of a word of the table is the S-box's value
 value : (x y s v : ℕ) → encode 4 y ≡ contribution (sbox x) → x ≡ s → v ≡ octet 1 y → v ≡ sbox s

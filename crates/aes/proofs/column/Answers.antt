@@ -5,7 +5,7 @@ use Rattle.aes_tables.specs.Sbox.{sbox}
 use Rattle.aes_tables.specs.RoundTable.{contribution}
 use Rattle.aes_words.proofs.Turns.{shifted2, shifted3}
 use Rattle.aes.proofs.Columns.{mixed}
-use Rattle.aes.proofs.Cipher.column.Goals as goal
+use Rattle.aes.proofs.column.Goals as goal
 
 pub returns : goal.returns
 unfolding digits
