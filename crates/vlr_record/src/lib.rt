@@ -42,7 +42,8 @@ impl State {
     }
 }
 
-// `queue` has the `held` places in use, oldest first, then zeros; `out` is the outstanding place, zeros when none.
+// `queue` has the `held` places in use, oldest first, then zeros; `out` is the outstanding place, zeros when none. No ghost field says so:
+// a record that is not so is refused with 1, and may be lent.
 #[derive(Clone, Copy)]
 pub struct Vlr {
     pub state: State,
