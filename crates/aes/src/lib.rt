@@ -68,6 +68,7 @@ impl Cipher {
         }
     }
 
+    // The last round. One function for it and `one_round`, with the column's function as a parameter, would be longer than the two.
     fn last_round(&self, s: Block) -> Block
         ensures { octets_of result ≡ last_round self.now.schedule 10 (octets_of s) }
     {

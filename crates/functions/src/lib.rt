@@ -61,6 +61,7 @@ pub fn admits(edition: u8, keys: Keys) -> bool
 }
 
 impl PreparedKeys {
+    // The keys with their cipher, made once for a call.
     pub fn new(keys: Keys) -> Self
         ensures { result.keys ≡ keys }
     {

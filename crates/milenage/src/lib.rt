@@ -54,6 +54,7 @@ impl Outputs<'_> {
         self.masked(self.temp ^ turned)
     }
 
+    // OUT2 to OUT5, of TEMP.
     pub fn out2(&self) -> Block
         ensures { octets_of result ≡ OUT2 (CIPHER self.now.cipher.now.schedule) (octets_of self.now.opc) (octets_of self.now.temp) }
     {
@@ -78,7 +79,7 @@ impl Outputs<'_> {
         self.output(3, 8)
     }
 
-    // OUT2 to OUT5, of TEMP: at the rotation by `words` words and the constant `c`.
+    // Each of them: at the rotation by `words` words and with the constant `c`.
     fn output(&self, words: usize, c: u32) -> Block
         requires { (words ≤ 3) × (c < 256) }
         ensures { octets_of result
