@@ -19,10 +19,6 @@ shifted2 x = sym (shr-shr x 8 8)
 pub shifted3 : (x : ℕ) → x / 0x1000000 ≡ x / 256 / 256 / 256
 shifted3 x = sym (ap (λ (y : ℕ). y / 256) (shr-shr x 8 8) ∙ shr-shr x 16 8)
 
-pub by_shifts : (x : ℕ) → encode 4 x ≡ x / 0x1000000 % 256 ∷ x / 0x10000 % 256 ∷ x / 0x100 % 256 ∷ x % 256 ∷ []
-unfolding digits
-by_shifts x = rw (shifted3 x, shifted2 x)
-
 -- A word of i and j octets, turned left by the first i: what they were comes last.
 module _ (i j x : ℕ) (h : x / 256 ^ j < 256 ^ i) where
   front : length (digits 256 i (x / 256 ^ j)) ≡ i

@@ -38,7 +38,7 @@ pub fn is_known(edition: u8) -> bool
     1 <= edition && edition <= LATEST
 }
 
-// Its row of the table.
+// Its row of the table. An edition stays an octet here: callers hand in any, and an enum would ask more of them.
 pub fn row(edition: u8) -> Numbering
     ensures { Numbers (editions.numbering edition) result }
 {

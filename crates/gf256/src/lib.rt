@@ -11,7 +11,7 @@ pub fn double(b: u8) -> u8
     (b << 1) ^ ((b >> 7) * 27)
 }
 
-// `a` times `b`: `a` is halved until it is zero, and `b` doubled.
+// `a` times `b`: `a` is halved until it is zero, and `b` doubled. Document 01 has this recursion.
 pub fn multiply(a: u8, b: u8) -> u8
     ensures { result ≡ times a b }
 {

@@ -5,19 +5,14 @@ use mathlib.Core.Path.{◌≡◌, sym, ap, ap₂, ◌∙◌}
 use native.Mathlib.Omega.{arith}
 use borrow.Rule.Slice.PartMut.{put_mid, Post-is}
 use lib.ListN.{length, take, drop, length-drop, drop_of_length-le}
-use lib.Seq.{take_all, take-length, drop-length, drop-drop}
-use Rattle.octets.specs.Octets.{Octets, part}
-use Rattle.octets.proofs.Parts.{length_part}
+use lib.Seq.{take_all, take-length, drop-drop}
+use Rattle.octets.specs.Octets.{Octets}
 
 -- copied to the front of d
 pub copied : (s d : Octets) {x t : Octets} (n : ℕ) → t ≡ take (length s) s ++ drop (length s) d → s ≡ x → length x ≡ n
     → t ≡ x ++ drop n d
 copied s d {x} n e same size =
     e ∙ ap₂ (λ (l : Octets) (k : ℕ). l ++ drop k d) (take-length s ∙ same) (ap (λ (l : Octets). length l) same ∙ size)
-
--- copied to the whole of d
-pub copied_whole : (s d : Octets) {x t : Octets} → t ≡ take (length s) s ++ drop (length s) d → s ≡ x → length x ≡ length d → t ≡ x
-copied_whole s d {x} e same size = copied s d (length d) e same size ∙ ap (λ (l : Octets). x ++ l) (drop-length d) ∙ append-nil x
 
 -- all that is left of d from `at` on
 pub rest : (d : Octets) (at size : ℕ) → length d ≡ size → take (size - at) (drop at d) ≡ drop at d
@@ -38,14 +33,3 @@ copied_at s d at size {t} is e h =
       drop-drop (length s) at d,
     )
     (sym (append_assoc (take at d) s (drop (at + length s) d)))
-
--- a part of x, as the code has it by its end, copied to the whole of d
-module _ (x d : Octets) (at n : ℕ) where
-  abbrev lent : Octets
-  lent = take (at + n - at) (drop at x)
-
-  pub copied_part : {t : Octets} → t ≡ take (length lent) lent ++ drop (length lent) d
-      → length d ≡ n → at + n ≤ length x → t ≡ part at n x
-  copied_part e size h =
-      let same : at + n - at ≡ n = omega arith in
-      copied_whole lent d e (ap (λ (k : ℕ). part at k x) same) (length_part at n x h ∙ sym size)

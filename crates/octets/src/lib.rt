@@ -61,7 +61,7 @@ pub fn piece<const N: usize>(x: [u8; 16], at: usize) -> [u8; N]
     array(&x[at..at + N])
 }
 
-// The sum of two strings of N octets, octet by octet.
+// The sum of two strings of N octets. By the place: what a `zip` over `iter_mut` leaves is more than a proof knows.
 pub fn xor<const N: usize>(x: [u8; N], y: [u8; N]) -> [u8; N]
     ensures { result ≡ xor_of x.entry y.entry }
 {

@@ -15,14 +15,6 @@ use Rattle.packing.proofs.Repacked.{power, shifted, encode_zero}
 
 -- ---- eight octets
 
--- stored octet by octet
-pub stored : (d : Octets) (at : ℕ) (a b c e f g h i : ℕ) → at + 8 ≤ length d
-    → set (set (set (set (set (set (set (set d at a) (at + 1) b) (at + 2) c) (at + 3) e) (at + 4) f) (at + 5) g) (at + 6) h) (at + 7) i
-    ≡ take at d ++ (a ∷ b ∷ c ∷ e ∷ f ∷ g ∷ h ∷ i ∷ []) ++ drop (at + 8) d
-stored d at a b c e f g h i room =
-    rw (add-one at, add-two at, add-three at, add-four at, add_five at, add_six at, add_seven at)
-    (sets-eq (a ∷ b ∷ c ∷ e ∷ f ∷ g ∷ h ∷ i ∷ []) d at room)
-
 -- what a word does not hold is not put
 encode_low : (x : ℕ) → encode 8 (x % 2 ^ 64) ≡ encode 8 x
 encode_low x = sym (digits_low 256 8 (x / 2 ^ 64) (x % 2 ^ 64) (omega arith)) ∙ ap (encode 8) (div-add-mod' x (2 ^ 64))

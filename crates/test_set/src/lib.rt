@@ -21,7 +21,7 @@ pub fn mac(x: Block, sqn: [u8; 6], amf: [u8; 2]) -> [u8; 8]
     octets::xor(octets::piece(x.into(), 0), sqn_amf(sqn, amf))
 }
 
-// SQN, then AMF.
+// SQN, then AMF. Eight octets by name are no longer than a buffer and two copies.
 fn sqn_amf(sqn: [u8; 6], amf: [u8; 2]) -> [u8; 8]
     ensures { result ≡ sqn ++ amf }
 {

@@ -66,7 +66,7 @@ pub fn autn(
     autn
 }
 
-// SQN_MS, which AUTS conceals with AK*.
+// SQN_MS, which AUTS conceals with AK*. As in AUTN, but each token has a type and a layout of its own.
 pub fn sqn_ms_in(auts: [u8; aka::AUTS_SIZE], akstar: [u8; aka::SQN_SIZE]) -> [u8; aka::SQN_SIZE]
     ensures { result ≡ xor (read_auts auts).concealed akstar }
 {
