@@ -94,52 +94,35 @@ fn put_hex(text: &mut [u8], used: usize, octets: &[u8], end: u8) -> usize
 }
 
 // Writes MAC, MAC-S and RES to the front of the text.
-fn put_macs(
-    text: &mut [u8],
-    mac: [u8; aka::MAC_SIZE],
-    macs: [u8; aka::MAC_SIZE],
-    res: [u8; aka::RES_SIZE],
-)
+fn put_macs(text: &mut [u8], o: &Outputs)
     requires { macs_size ≤ length text.old }
-    ensures { take macs_size text.new ≡ (hex mac ++ ascii " ") ++ (hex macs ++ ascii " ") ++ (hex res ++ ascii " ") }
+    ensures { take macs_size text.new
+        ≡ (hex o.now.mac ++ ascii " ") ++ (hex o.now.macs ++ ascii " ") ++ (hex o.now.res ++ ascii " ") }
 {
-    let n = put_hex(text, 0, &mac, b' ');
-    let n = put_hex(text, n, &macs, b' ');
-    put_hex(text, n, &res, b' ');
+    let n = put_hex(text, 0, &o.mac, b' ');
+    let n = put_hex(text, n, &o.macs, b' ');
+    put_hex(text, n, &o.res, b' ');
 }
 
 // Writes CK, IK, AK and AK* behind them.
-fn put_keys(
-    text: &mut [u8],
-    ck: [u8; aka::CK_SIZE],
-    ik: [u8; aka::IK_SIZE],
-    ak: [u8; aka::SQN_SIZE],
-    aks: [u8; aka::SQN_SIZE],
-) -> usize
+fn put_keys(text: &mut [u8], o: &Outputs) -> usize
     requires { room ≤ length text.old }
-    ensures { take result text.new ≡ take macs_size text.old ++ (hex ck ++ ascii " ") ++ (hex ik ++ ascii " ")
-        ++ (hex ak ++ ascii " ") ++ (hex aks ++ ascii "\n") }
+    ensures { take result text.new ≡ take macs_size text.old ++ (hex o.now.ck ++ ascii " ") ++ (hex o.now.ik ++ ascii " ")
+        ++ (hex o.now.ak ++ ascii " ") ++ (hex o.now.aks ++ ascii "\n") }
 {
-    let n = put_hex(text, MACS_SIZE, &ck, b' ');
-    let n = put_hex(text, n, &ik, b' ');
-    let n = put_hex(text, n, &ak, b' ');
-    put_hex(text, n, &aks, b'\n')
+    let n = put_hex(text, MACS_SIZE, &o.ck, b' ');
+    let n = put_hex(text, n, &o.ik, b' ');
+    let n = put_hex(text, n, &o.ak, b' ');
+    put_hex(text, n, &o.aks, b'\n')
 }
 
 // Writes the outputs on one line to the front of the text, and returns its length.
-fn put_outputs(text: &mut [u8], o: Outputs) -> usize
+fn put_outputs(text: &mut [u8], o: &Outputs) -> usize
     requires { room ≤ length text.old }
-    ensures { take result text.new ≡ outputs_text o.mac o.macs o.res o.ck o.ik o.ak o.aks }
+    ensures { take result text.new ≡ outputs_text o.now.mac o.now.macs o.now.res o.now.ck o.now.ik o.now.ak o.now.aks }
 {
-    let mac = o.mac;
-    let macs = o.macs;
-    let res = o.res;
-    put_macs(text, mac, macs, res);
-    let ck = o.ck;
-    let ik = o.ik;
-    let ak = o.ak;
-    let aks = o.aks;
-    put_keys(text, ck, ik, ak, aks)
+    put_macs(text, o);
+    put_keys(text, o)
 }
 
 // ---- the line
@@ -227,7 +210,7 @@ fn write_answer(line: &[u8], text: &mut [u8]) -> usize
     let rand = challenge.rand;
     let sqn = challenge.sqn;
     let amf = challenge.amf;
-    put_outputs(text, seven(keys, rand, sqn, amf))
+    put_outputs(text, &seven(keys, rand, sqn, amf))
 }
 
 // ---- the program

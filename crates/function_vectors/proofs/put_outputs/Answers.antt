@@ -8,7 +8,7 @@ use Rattle.function_vectors.proofs.put_outputs.Goals as goal
 pub returns : goal.returns
 unfolding outputs_text
 returns c =
-    let o = c.args.o in
+    let o = c.args.o.now in
     c.put_keys.ensures
     ∙ ap
     (λ (l : List ℕ).
