@@ -1,14 +1,14 @@
 -- Numbers of a few bits, put one behind the other by words of eight octets. Assumes nothing.
 use Prim.Native.Nat.{ℕ, ◌+◌, ◌-◌, ◌*◌, ◌/◌, ◌%◌, ◌^◌, ◌≤◌, ◌<◌}
-use mathlib.Core.List.{List, [], ◌∷◌, ◌++◌, append_assoc}
+use mathlib.Core.List.{List, ◌++◌, append_assoc}
 use mathlib.Core.Path.{◌≡◌, refl, sym, ap, ap₂, ◌∙◌}
 use native.Mathlib.Nat.{add-zero, zero-mul, mul-zero, mul_assoc, mul-suc, mul-le-mul_left, mod-lt}
 use native.Mathlib.Nat.{div-add-mod', mul-add-mod_self_right}
-use native.Mathlib.Numerals.{add-one, add-two, add-three, add-four, add_five, add_six, add_seven}
+use native.Mathlib.Numerals.{add-one}
 use native.Mathlib.Omega.{arith}
-use lib.ListN.{length, get_or, take, drop, set}
+use lib.ListN.{length, get_or, take, drop}
 use lib.Pow.{pow_pos, pow-add, high, low, mod-pow-add, shl-shr, shr-shr}
-use lib.Seq.{sets-eq, take_at, drop_at, take-length, take-suc}
+use lib.Seq.{take_at, drop_at, take-length, take-suc}
 use Rattle.octets.specs.Octets.{Octets, Below, zeros, spelt, number, encode}
 use Rattle.octets.proofs.Numbers.{length_digits, digits_split, digits_low, spelt_snoc}
 use Rattle.packing.proofs.Repacked.{power, shifted, encode_zero}
