@@ -37,9 +37,9 @@ pub fn unpack(x: &[u8], at: usize, bits: u64, dst: &mut [u64])
     ensures { dst.new ≡ unpacked bits (length dst.old) (drop at x.now) }
 {
     let mut left = OCTET_BITS * ((x.len() - at) as u64);
-    for number in dst.iter_mut() {
+    for i in 0..dst.len() {
         left -= bits;
-        *number = place(x, left, bits);
+        dst[i] = place(x, left, bits);
     }
 }
 

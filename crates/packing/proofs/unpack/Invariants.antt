@@ -4,5 +4,5 @@ use Rattle.octets.specs.Octets.{decode}
 use Rattle.packing.proofs.Reading.{Unpacked}
 use Rattle.packing.proofs.unpack.Given as goal
 
-abbrev pub invariant-loop-number : goal.invariant-loop-number
-invariant-loop-number l = Unpacked (decode l.x) l.bits (length l.initial.dst) l.dst l.left l.number-index
+abbrev pub invariant-loop-i : goal.invariant-loop-i
+invariant-loop-i l = Unpacked (decode l.x) l.bits (length l.initial.dst) l.dst l.left l.i
