@@ -13,8 +13,8 @@ ghost use Rattle.usim_record.specs.Views.{usim_of};
 ghost use Rattle.handset_store.specs.Views.{store_of, outcome_of};
 ghost use Rattle.handset.specs.Views.{told_of, asked_with, unasked};
 
-pub use handset_store::{Outcome, clear, keep, shown};
 use aka::Refusal;
+pub use handset_store::{Outcome, clear, keep, shown};
 use handset_store::{is_accepted, lengths_right, repeats};
 use usim::Usim;
 

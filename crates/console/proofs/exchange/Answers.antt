@@ -20,7 +20,7 @@ returns-then-left-ne0 g c line =
     let out = c.args.out.now in
     let s = standing_of c.args.piece.now line out c.args.p in
     let kept : reads s ≡ false = elim c.then-left-ne0.branch [
-        then-left-ne0-via-then-left-ne0 w ↦ some_left s c.untaken-left.ensures w.if-left-ne0.true
+      | then-left-ne0-via-then-left-ne0 w ↦ some_left s c.untaken-left.ensures w.if-left-ne0.true
       | then-left-ne0-via-else-left-ne0+then-p w ↦ has_ended s w.if-p.true
     ] in
     not_read (length out) s _ kept

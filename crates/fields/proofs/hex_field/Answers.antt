@@ -45,7 +45,7 @@ returns-then-line-at c =
     let line = c.args.line.now in
     let none : is_hex_field (length out) at line ≡ false =
     elim c.then-line-at.branch [
-        then-line-at-via-then-line-at w ↦ line_ends out at line w.if-line-at.true
+      | then-line-at-via-then-line-at w ↦ line_ends out at line w.if-line-at.true
       | then-line-at-via-else-line-at+then-line-at-ne32 w ↦ no_space out at line w.if-line-at-ne32.true
     ] in
     record { answer = sym none; octets = kept out at line none }

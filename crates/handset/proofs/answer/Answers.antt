@@ -35,11 +35,11 @@ returns-then-not-lengths_right-clause-answer c =
     let store = store_of a.held a.stored.now in
     let wrong : (parts_right store a.rand.now a.fresh.now && eqb (length a.autn.now) autn_size) ≡ false =
     elim c.then-not-lengths_right.branch [
-      then-not-lengths_right-via-then-not-lengths_right w ↦
-        parts_wrong store a.rand.now a.autn.now a.fresh.now (sym c.lengths_right.ensures ∙ w.if-not-lengths_right.true)
-    | then-not-lengths_right-via-else-not-lengths_right+then-autn-ne-AUTN_SIZE w ↦
-        autn_wrong store a.rand.now a.autn.now a.fresh.now (sym c.lengths_right.ensures ∙ w.if-not-lengths_right.false)
-        w.if-autn-ne-AUTN_SIZE.true
+      | then-not-lengths_right-via-then-not-lengths_right w ↦
+          parts_wrong store a.rand.now a.autn.now a.fresh.now (sym c.lengths_right.ensures ∙ w.if-not-lengths_right.true)
+      | then-not-lengths_right-via-else-not-lengths_right+then-autn-ne-AUTN_SIZE w ↦
+          autn_wrong store a.rand.now a.autn.now a.fresh.now (sym c.lengths_right.ensures ∙ w.if-not-lengths_right.false)
+          w.if-autn-ne-AUTN_SIZE.true
     ] in
     c.without_card.ensures a.fresh.now
     ∙ ap (λ (number : ℕ). unasked (refused number) (usim_of a.usim) a.fresh.now) c.number.ensures

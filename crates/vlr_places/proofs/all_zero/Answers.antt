@@ -18,5 +18,5 @@ pub returns : goal.returns
 returns c =
     let x = c.args.x.now in
     let all = fold_from_yields_List _ bit_or 0 c.fold.result c.fold.ensures.ran (YieldsList-from_slice x cc)
-        (λ a y b q k. search (rules, tests)) in
+    (λ a y b q k. search (rules, tests)) in
     ap (λ (n : ℕ). eqb n 0) all ∙ folded 0 x
