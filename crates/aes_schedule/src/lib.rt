@@ -11,6 +11,8 @@ ghost use Rattle.aes_schedule.specs.NextWords.{NextWords};
 
 use aes_words::Block;
 
+// The S-box is lent to the three that read it, since document 01 has it as a constant, which is laid down anew wherever it is read. A type
+// for it would be made in one place, and be no plainer.
 fn sub_word(sbox: &[u8; 256], x: u32) -> u32
     requires { IsSbox sbox.now }
     ensures { result ≡ sub_word x }

@@ -40,6 +40,7 @@ fn sqn_at(s: Series, k: u8) -> [u8; aka::SQN_SIZE]
     tokens::sqn_octets(editions::sqn(s.edition, s.from + 1 + (k as u64), ind))
 }
 
+// The buffer stays beside its RANDs, here and at the callers: a struct with the `&mut` in it would be taken apart at each call.
 // Puts the vector at place k into the batch. What stands before and behind stays.
 fn put_at(s: Series, rands: Rands, k: u8, batch: &mut [u8])
     requires room { s.from + 1 + k ≤ limit (width_of editions s.edition) }

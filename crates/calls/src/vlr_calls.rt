@@ -3,6 +3,7 @@ use call_lines::call;
 use call_lines::call::{Call, LONGEST};
 use call_lines::text::Text;
 use vlr::{Kind, Outcome, Reply, State, Vlr};
+use vlr_steps::no_octets;
 
 #[derive(Clone, Copy)]
 enum Word {
@@ -76,8 +77,8 @@ fn reply(vlr: Vlr, line: &[u8]) -> Option<Reply> {
     let word = Word::of(call::word(line))?;
     let c = call::read(word.form(), line, &mut store)?;
     Some(match word {
-        Word::New => record_reply(vlr::new()),
-        Word::Record => record_reply(record(&c)),
+        Word::New => no_octets(Outcome::Done, vlr::new()),
+        Word::Record => no_octets(Outcome::Done, record(&c)),
         Word::Store => vlr::store(vlr, kind_of(c.mark(0)), c.number(1), c.part(2)),
         Word::Renew => vlr::renew(vlr, kind_of(c.mark(0)), c.number(1), c.part(2)),
         Word::Answer => vlr::answer(vlr, c.part(0)),
@@ -90,11 +91,13 @@ fn reply(vlr: Vlr, line: &[u8]) -> Option<Reply> {
     })
 }
 
+// The digit KIND, 0 or 1: so no TryFrom here either.
 fn kind_of(is_triplet: bool) -> Kind {
     if is_triplet {
-        return Kind::Triplet;
+        Kind::Triplet
+    } else {
+        Kind::Vector
     }
-    Kind::Vector
 }
 
 // `vlr-record STATE HELD OUT PLACES`.
@@ -107,25 +110,12 @@ fn record(c: &Call) -> Vlr {
     }
 }
 
+// A number of at most 2, as the form has it: so no TryFrom, whose error could not come.
 fn state_of(number: u64) -> State {
     match number {
         0 => State::Idle,
         1 => State::Asked,
         _ => State::Resyncing,
-    }
-}
-
-// A record that was made, as an answer that gives nothing.
-fn record_reply(vlr: Vlr) -> Reply {
-    Reply {
-        outcome: Outcome::Done,
-        vlr,
-        rand: [0; aka::RAND_SIZE],
-        autn: [0; aka::AUTN_SIZE],
-        auts: [0; aka::AUTS_SIZE],
-        ck: [0; aka::CK_SIZE],
-        ik: [0; aka::IK_SIZE],
-        kc: [0; aka::KC_SIZE],
     }
 }
 
@@ -152,24 +142,15 @@ fn outcome(outcome: Outcome) -> Text {
 }
 
 fn put_vlr(text: &mut Text, vlr: &Vlr) {
-    text.put_number(number_of(vlr.state));
+    text.put_number(vlr.state as u64);
     text.put_number(vlr.held as u64);
     text.put_octets(&vlr.out);
     text.put_octets(without_zeros(&vlr.queue));
 }
 
-fn number_of(state: State) -> u64 {
-    match state {
-        State::Idle => 0,
-        State::Asked => 1,
-        State::Resyncing => 2,
-    }
-}
-
 // The places without the zeros at their end.
 fn without_zeros(places: &[u8]) -> &[u8] {
-    let end = places.iter().rposition(|octet| *octet != 0);
-    match end {
+    match places.iter().rposition(|octet| *octet != 0) {
         Some(last) => &places[..last + 1],
         None => &places[..0],
     }

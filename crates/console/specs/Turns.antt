@@ -110,7 +110,7 @@ ended_at p = p.failed || p.over && not p.ready && eqb p.used 0
 
 -- ---- all that a program did
 
--- a proved loop has to end: it counts its turns down from 2^64 - 1
+-- a proved loop has to end: its last turn is the one with this number
 abbrev pub most_turns : ℕ
 most_turns = 18446744073709551615
 

@@ -19,6 +19,7 @@ fn word(x: &[u8]) -> u64
     u64::from_be_bytes(octets::array(x))
 }
 
+// A width is a plain number below 57: callers hand one in, and a type for it would ask them to make it.
 // The number of `bits` bits in x behind which `left` bits stand. It is in the word that ends with the number's last octet.
 fn place(x: &[u8], left: u64, bits: u64) -> u64
     requires width { bits ≤ 56 }

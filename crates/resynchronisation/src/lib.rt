@@ -54,6 +54,7 @@ fn mac_s_right(
     octets::equal_without_early_end(&mac, &expected)
 }
 
+// `n` is a number and no `Rands`: what is decided does not depend on them.
 // In range SEQ_HE is kept, and MAC-S is not looked at. Otherwise MAC-S is verified, and SEQ_HE becomes SEQ_MS; refusal 5 where it is wrong.
 pub fn decide(
     keys: &PreparedKeys,

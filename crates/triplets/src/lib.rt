@@ -18,6 +18,7 @@ fn folded<const N: usize>(x: &[u8]) -> [u8; N]
     octets::xor(octets::array(&x[..N]), octets::array(&x[N..]))
 }
 
+// A vector is lent as the part of the batch that it is: as an array it would be copied, and the three below would be no plainer.
 // c2: SRES is XRES's two halves by xor. The quarters with which XRES is padded are zeros, and change nothing.
 fn sres(vector: &[u8]) -> [u8; aka::SRES_SIZE]
     requires { length vector.now ≡ vector_size }
