@@ -47,6 +47,7 @@ fn up_to_newline(bytes: &[u8]) -> usize
 
 // The part of the piece from `at` up to `size` is not taken yet, `held` counts the bytes of the line, and `used` those that wait to be
 // written out. `ready` says that the line is whole, `over` that the input has ended, and `failed` that a write failed.
+// The three marks are no enum, since any of them may hold beside another.
 // The three buffers stay slices beside it: each function below is lent those that it reads or writes, and a program chooses their sizes.
 #[derive(Clone, Copy, Drop)]
 pub struct Progress {

@@ -24,7 +24,7 @@ pub struct Numbering {
     // The bits of a SEQ, and the largest.
     pub bits: u64,
     pub limit: u64,
-    // The index goes up for each vector; else for each batch.
+    // The index goes up for each vector; else for each batch. A column like the others: it does not say whether they count.
     pub each: bool,
     // The octets of all places in a card's image.
     pub octets: usize,

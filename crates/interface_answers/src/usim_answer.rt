@@ -35,7 +35,7 @@ pub fn fill_all(a: usim::Answer, res: &mut [u8], ck: &mut [u8], ik: &mut [u8], a
     auts.copy_from_slice(&a.auts);
 }
 
-// The image changes with an acceptance.
+// The image changes with an acceptance. By cases, since C has a number for each.
 pub fn hand_on(a: usim::Answer, image: &mut [u8]) -> u64
     requires next { (valid_usim editions sets (usim_of a.usim) ≡ true) × FitsSqn (sqn_given a.verdict) }
     requires size { length image.old ≡ usim_image_size (width_of editions a.usim.edition) }

@@ -23,7 +23,7 @@ pub struct Outputs<'a> {
     pub temp: Block,
 }
 
-// IN1: SQN and AMF, twice.
+// IN1: SQN and AMF, twice. Octet by octet: to put four parts into 16 octets and make a block of these would be longer.
 pub fn in1(sqn: [u8; 6], amf: [u8; 2]) -> Block
     ensures { octets_of result ≡ IN1 sqn amf }
 {

@@ -27,6 +27,7 @@ impl Kind {
         self as u8
     }
 
+    // By cases, as the size of a response below: the discriminant is the octet of the kind.
     pub fn item_size(self) -> usize
         ensures { result ≡ item_size (kind_of self) }
     {
@@ -47,7 +48,7 @@ impl Kind {
     }
 }
 
-// The kind of what the place has. One without an item counts as a vector's.
+// The kind of what the place has. One without an item counts as a vector's. No TryFrom: any other octet counts as a triplet's.
 pub fn kind_in(place: Place) -> Kind
     ensures { kind_of result ≡ kind_in place }
 {
@@ -67,7 +68,7 @@ pub fn all_zero(x: &[u8]) -> bool
     x.iter().fold(0, |found, octet| found | octet) == 0
 }
 
-// Whether a place in use is as it should be: kind 0 or 1, and zeros behind a triplet.
+// Whether a place in use is as it should be: kind 0 or 1, and zeros behind a triplet. By the octet and not by `Kind`, since it may be any.
 #[tactic(auto, using(crate::proofs::Items::good_vector, crate::proofs::Items::good_triplet, crate::proofs::Items::bad_kind))]
 pub fn is_good(place: &[u8]) -> bool
     requires { length place.now ≡ place_size }
