@@ -3,7 +3,7 @@
 
     python3 tools/forms.py [FOLDER]     FOLDER holds crates/ (default: this repository)
 """
-import collections, glob, os, re, sys
+import collections, difflib, glob, os, re, sys
 
 top = sys.argv[1] if len(sys.argv) > 1 else os.path.join(os.path.dirname(os.path.abspath(__file__)), "..")
 files = sorted(glob.glob(os.path.join(top, "crates/*/src/*.rt")))
@@ -84,19 +84,33 @@ def coded():
             yield f"{name}:{n}: fn {f}: a test of a kind's number"
 
 
+def plain(body):
+    """A body with S for each string, N for each number and I for each other name."""
+    body = re.sub(r'b?"[^"]*"', "S", body)
+    body = re.sub(r"\b(?!let\b|mut\b|if\b|else\b|return\b|while\b|for\b|in\b|match\b|true\b|false\b|as\b)[A-Za-z_]\w*\b", "I", body)
+    return re.sub(r"\s+", " ", re.sub(r"\b\d+\b", "N", body))
+
+
 def twins():
-    """Groups of functions whose bodies are the same but for names and numbers, or that differ in one more word."""
-    groups = collections.defaultdict(list)
+    """Functions whose bodies are the same but for names and numbers; and functions of one name in two crates with much the same body."""
+    groups, named = collections.defaultdict(list), collections.defaultdict(list)
     for name, n, f, head, body in functions():
-        plain = re.sub(r'b?"[^"]*"', "S", body)
-        plain = re.sub(r"\b(?!let\b|mut\b|if\b|else\b|return\b|while\b|for\b|in\b|match\b|true\b|false\b|as\b)[A-Za-z_]\w*\b", "I", plain)
-        plain = re.sub(r"\b\d+\b", "N", plain)
-        plain = re.sub(r"\s+", " ", plain)
-        if len(re.findall(r"\w+", plain)) >= 8:
-            groups[plain].append(f"{name}:{n}: fn {f}")
-    for same in groups.values():
-        if len(same) > 1:
-            yield " ~ ".join(same)
+        if len(re.findall(r"\w+", plain(body))) >= 8:
+            groups[plain(body)].append(f"{name}:{n}: fn {f}")
+        if not re.search(r"^(main|new|from|answer)$", f):
+            named[f].append((name, n, body))
+    found = [set(same) for same in groups.values() if len(same) > 1]
+    for f, places in named.items():
+        near = {places[0][:2]}
+        for name, n, body in places[1:]:
+            words = [re.findall(r"\w+|[^\w\s]", x) for x in (places[0][2], body)]
+            if name.split("/")[0] != places[0][0].split("/")[0] and difflib.SequenceMatcher(None, *words).ratio() > 0.6:
+                near.add((name, n))
+        same = {f"{name}:{n}: fn {f}" for name, n in near}
+        if len(same) > 1 and not any(same <= other for other in found):
+            found = [other for other in found if not other <= same] + [same]
+    for same in found:
+        yield " ~ ".join(sorted(same))
 
 
 def by_hand():
@@ -151,11 +165,12 @@ def buffers():
 
 
 def switches():
-    """Matches whose arms call one step each."""
+    """Matches on a number, each arm of which runs another step; tables of functions."""
     for name, n, f, head, body in functions():
-        arms = re.findall(r"=> \{?\s*(?:return )?[\w:]+\(", body)
+        arms = re.findall(r"^\s+(?:\d+(?: \| \d+)*|_) => [\w:]+\(", body, re.M)
         if len(arms) >= 3:
             yield f"{name}:{n}: fn {f}: {len(arms)} arms"
+    yield from lines(r"\[fn\(|&dyn Fn|: fn\(")
 
 
 points = [
