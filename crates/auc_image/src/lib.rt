@@ -88,6 +88,7 @@ impl ImageFormat for AucFormat {
     }
 }
 
+// It and `read` stay as names over the one writing and reading of `images`: the calls of C and docs/ go by them.
 // Writes the image of `auc`. A refusal leaves the buffer as it was.
 pub fn write(auc: Auc, buffer: &mut [u8]) -> Result<(), Refusal>
     ensures { written_of (refusal_in result) buffer.new ≡ write_answer (format editions sets) (auc_of auc) buffer.old }

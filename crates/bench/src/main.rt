@@ -65,6 +65,7 @@ fn answer_all<R: Read, W: Write, E: Write>(
     }
 }
 
+// The mains of the programs differ in all but the order of their lines.
 // A line is held up to one byte more than the longest, so that a longer one is seen to be longer.
 fn main(rt: HostRuntime) {
     let mut console = Console {

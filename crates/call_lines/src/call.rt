@@ -36,9 +36,11 @@ pub struct Call<'a> {
 
 // ---- the line
 
-// The word that a line begins with.
-pub fn word(line: &[u8]) -> &[u8] {
-    &line[..fields::field_end(line, 0)]
+// The words of some calls: which one a text is, and the form of its fields.
+pub trait Words: Copy {
+    fn of(word: &[u8]) -> Option<Self>;
+
+    fn form(self) -> &'static [u8];
 }
 
 // A form has a letter for each field, a small one for a number and a capital one for octets: `d` one digit, 0 or 1, `s` a state, `b` what
@@ -105,10 +107,10 @@ fn read_field(kind: u8, line: &[u8], at: usize, store: &mut [u8]) -> Option<(u64
     }
 }
 
-// The call of a line, one field for each letter of the form of its word; none where the fields are not so, or more stands behind them.
-pub fn read<'a>(form: &[u8], line: &[u8], store: &'a mut [u8]) -> Option<Call<'a>> {
+// The call of a line, one field for each letter of the form; none where the fields are not so, or more stands behind them.
+fn read_fields<'a>(form: &[u8], line: &[u8], from: usize, store: &'a mut [u8]) -> Option<Call<'a>> {
     let mut fields = [Field { start: 0, value: 0 }; MOST_FIELDS];
-    let mut at = fields::field_end(line, 0);
+    let mut at = from;
     for (field, kind) in fields.iter_mut().zip(form) {
         let (value, end) = read_field(*kind, line, at, store)?;
         *field = Field { start: at, value };
@@ -119,6 +121,14 @@ pub fn read<'a>(form: &[u8], line: &[u8], store: &'a mut [u8]) -> Option<Call<'a
     } else {
         None
     }
+}
+
+// The word that a line begins with, and the call; none where the word is not among these, or the fields are not of its form.
+pub fn read<'a, W: Words>(line: &[u8], store: &'a mut [u8]) -> Option<(W, Call<'a>)> {
+    let end = fields::field_end(line, 0);
+    let word = W::of(&line[..end])?;
+    let call = read_fields(word.form(), line, end, store)?;
+    Some((word, call))
 }
 
 // ---- the fields

@@ -48,7 +48,7 @@ impl Text {
         Text::numbered(b"refused", number as u64)
     }
 
-    // A word and octets.
+    // A word and octets. Two lines like those above: to say what is put by a parameter would take more.
     pub fn with_octets(word: &[u8], octets: &[u8]) -> Text {
         let mut text = Text::word(word);
         text.put_octets(octets);

@@ -1,15 +1,15 @@
 // The calls of the centre.
-ghost use Rattle.std.specs.Prelude.{◌≤◌};
-ghost use Rattle.call_lines.specs.Limits.{most_lent};
-
+use crate::image_calls;
 use aka::Refusal;
 use auc::{Auc, Outcome};
-use call_lines::call;
-use call_lines::call::{Call, LONGEST, MOST_LENT};
+use auc_image::AucFormat;
+use call_lines::answer::Answers;
+use call_lines::call::{Call, MOST_LENT, Words};
 use call_lines::text::Text;
 
+// The words of the centre.
 #[derive(Clone, Copy)]
-enum Word {
+pub enum Word {
     New,
     Write,
     Read,
@@ -19,7 +19,7 @@ enum Word {
     Triplets,
 }
 
-impl Word {
+impl Words for Word {
     fn of(word: &[u8]) -> Option<Word> {
         match word {
             b"auc-new" => Some(Word::New),
@@ -46,27 +46,17 @@ impl Word {
     }
 }
 
-// The answer to a line; none where it is no call of the centre.
-pub fn answer(line: &[u8]) -> Option<Text> {
-    let mut store = [0u8; LONGEST];
-    let word = Word::of(call::word(line))?;
-    let c = call::read(word.form(), line, &mut store)?;
-    Some(match answer_to(word, &c) {
-        Ok(text) => text,
-        Err(refusal) => Text::refused(refusal.number()),
-    })
-}
-
-// The answer to a call, or a refusal that has no more to say.
-fn answer_to(word: Word, c: &Call) -> Result<Text, Refusal> {
-    match word {
-        Word::New => write(new(c), auc_image::SIZE),
-        Word::Write => write(record(c), c.lent_size(5)),
-        Word::Read => Ok(read(record_in(c)?)),
-        Word::Order => Ok(order(record_in(c)?, c)),
-        Word::Resync => Ok(resync(record_in(c)?, c)),
-        Word::Vector => Ok(vector(c)),
-        Word::Triplets => triplets(c),
+impl Answers for Word {
+    fn answer(self, c: &Call) -> Result<Text, Refusal> {
+        match self {
+            Word::New => image_calls::write::<AucFormat>(new(c), auc_image::SIZE),
+            Word::Write => image_calls::write::<AucFormat>(record(c), c.lent_size(5)),
+            Word::Read => Ok(read(record_in(c)?)),
+            Word::Order => Ok(order(record_in(c)?, c)),
+            Word::Resync => Ok(resync(record_in(c)?, c)),
+            Word::Vector => Ok(vector(c)),
+            Word::Triplets => triplets(c),
+        }
     }
 }
 
@@ -87,16 +77,6 @@ fn record(c: &Call) -> Auc {
         next: c.octet(7),
         ..new(c)
     }
-}
-
-// Lends the first `size` bytes for the image.
-fn write(auc: Auc, size: usize) -> Result<Text, Refusal>
-    requires { size ≤ most_lent }
-{
-    let mut buffer = [0u8; MOST_LENT];
-    let image = &mut buffer[..size];
-    auc_image::write(auc, image)?;
-    Ok(Text::with_octets(b"image", image))
 }
 
 // `vector BATCH PLACE`.

@@ -1,18 +1,19 @@
 // The calls of the handset.
 use crate::usim_calls;
 use aka::Refusal;
-use call_lines::call;
-use call_lines::call::{Call, LONGEST};
+use call_lines::answer::Answers;
+use call_lines::call::{Call, LONGEST, Words};
 use call_lines::text::Text;
 use handset::{Outcome, Told};
 
+// The words of the handset.
 #[derive(Clone, Copy)]
-enum Word {
+pub enum Word {
     Phone,
     Clear,
 }
 
-impl Word {
+impl Words for Word {
     fn of(word: &[u8]) -> Option<Word> {
         match word {
             b"phone" => Some(Word::Phone),
@@ -29,18 +30,13 @@ impl Word {
     }
 }
 
-// The answer to a line; none where it is no call of the handset.
-pub fn answer(line: &[u8]) -> Option<Text> {
-    let mut store = [0u8; LONGEST];
-    let word = Word::of(call::word(line))?;
-    let c = call::read(word.form(), line, &mut store)?;
-    Some(match word {
-        Word::Phone => match phone(&c) {
-            Ok(text) => text,
-            Err(refusal) => Text::refused(refusal.number()),
-        },
-        Word::Clear => clear(&c),
-    })
+impl Answers for Word {
+    fn answer(self, c: &Call) -> Result<Text, Refusal> {
+        match self {
+            Word::Phone => phone(c),
+            Word::Clear => Ok(clear(c)),
+        }
+    }
 }
 
 // `phone HELD STORED IMAGE RAND AUTN FRESH`. The image is read first. It is the first of the three calls, and `show` and `keep` are the

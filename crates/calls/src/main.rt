@@ -3,6 +3,7 @@
 
 mod auc_calls;
 mod handset_calls;
+mod image_calls;
 mod usim_calls;
 mod vlr_calls;
 
@@ -13,17 +14,17 @@ ghost use Rattle.console.specs.Turns.{Ran, standing_of};
 ghost use Rattle.call_lines.specs.Limits.{longest_answer};
 ghost use Rattle.calls.specs.Program.{AnyAnswer};
 
-use call_lines::{call, text};
+use call_lines::{answer, call, text};
 use console::{Console, Program, Progress};
 use std::io::{Read, Write};
 use vlr::Vlr;
 use vlr_calls::Answered;
 
 // The answer to a line, and the node for the next one.
-fn answer(node: Vlr, line: &[u8]) -> Answered {
-    let text = usim_calls::answer(line)
-        .or_else(|| auc_calls::answer(line))
-        .or_else(|| handset_calls::answer(line));
+fn answer_line(node: Vlr, line: &[u8]) -> Answered {
+    let text = answer::answer::<usim_calls::Word>(line)
+        .or_else(|| answer::answer::<auc_calls::Word>(line))
+        .or_else(|| answer::answer::<handset_calls::Word>(line));
     match text {
         Some(text) => Answered { vlr: node, text },
         None => vlr_calls::answer(node, line),
@@ -46,7 +47,7 @@ impl Program for Desk {
     ghost room = { longest_answer + 1 };
 
     fn answer(&mut self, line: &[u8], text: &mut [u8]) -> usize {
-        let answered = answer(self.node, line);
+        let answered = answer_line(self.node, line);
         self.node = answered.vlr;
         let n = console::append(text, 0, answered.text.bytes());
         console::append(text, n, b"\n")
@@ -80,6 +81,7 @@ fn answer_all<R: Read, W: Write, E: Write>(
     }
 }
 
+// The mains of the programs differ in all but the order of their lines.
 // A line is held up to one byte more than the longest that is answered, so that a longer one is seen to be longer.
 fn main(rt: HostRuntime) {
     let mut console = Console {

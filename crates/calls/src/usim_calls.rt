@@ -1,22 +1,22 @@
 // The calls of the card.
-ghost use Rattle.std.specs.Prelude.{◌≤◌};
-ghost use Rattle.call_lines.specs.Limits.{most_lent};
-
+use crate::image_calls;
 use aka::Refusal;
-use call_lines::call;
-use call_lines::call::{Call, LONGEST, MOST_LENT};
+use call_lines::answer::Answers;
+use call_lines::call::{Call, MOST_LENT, Words};
 use call_lines::text::Text;
 use usim::{Usim, Verdict};
+use usim_image::UsimFormat;
 
+// The words of the card.
 #[derive(Clone, Copy)]
-enum Word {
+pub enum Word {
     New,
     Write,
     Read,
     Challenge,
 }
 
-impl Word {
+impl Words for Word {
     fn of(word: &[u8]) -> Option<Word> {
         match word {
             b"card-new" => Some(Word::New),
@@ -37,24 +37,14 @@ impl Word {
     }
 }
 
-// The answer to a line; none where it is no call of the card.
-pub fn answer(line: &[u8]) -> Option<Text> {
-    let mut store = [0u8; LONGEST];
-    let word = Word::of(call::word(line))?;
-    let c = call::read(word.form(), line, &mut store)?;
-    Some(match answer_to(word, &c) {
-        Ok(text) => text,
-        Err(refusal) => Text::refused(refusal.number()),
-    })
-}
-
-// The answer to a call, or a refusal.
-fn answer_to(word: Word, c: &Call) -> Result<Text, Refusal> {
-    match word {
-        Word::New => new(c),
-        Word::Write => write(record(c), c.lent_size(4)),
-        Word::Read => Ok(read(card_in(c, 0)?)),
-        Word::Challenge => Ok(challenge(card_in(c, 0)?, c)),
+impl Answers for Word {
+    fn answer(self, c: &Call) -> Result<Text, Refusal> {
+        match self {
+            Word::New => new(c),
+            Word::Write => image_calls::write::<UsimFormat>(record(c), c.lent_size(4)),
+            Word::Read => Ok(read(card_in(c, 0)?)),
+            Word::Challenge => Ok(challenge(card_in(c, 0)?, c)),
+        }
     }
 }
 
@@ -66,7 +56,7 @@ pub fn card_in(c: &Call, i: usize) -> Result<Usim, Refusal> {
 // `card-new EDITION SET K OPC`. The buffer lent has the size of the edition's image.
 fn new(c: &Call) -> Result<Text, Refusal> {
     let edition = c.edition();
-    write(usim::new(edition, c.keys()), usim_image::size(edition))
+    image_calls::write::<UsimFormat>(usim::new(edition, c.keys()), usim_image::size(edition))
 }
 
 // `card-write EDITION SET K OPC LENGTH P0 P1 .. P63`. LENGTH is that of the buffer lent for the image; P0 is field 5.
@@ -80,16 +70,6 @@ fn record(c: &Call) -> Usim {
         keys: c.keys(),
         places,
     }
-}
-
-// Lends the first `size` bytes for the image.
-fn write(card: Usim, size: usize) -> Result<Text, Refusal>
-    requires { size ≤ most_lent }
-{
-    let mut buffer = [0u8; MOST_LENT];
-    let image = &mut buffer[..size];
-    usim_image::write(card, image)?;
-    Ok(Text::with_octets(b"image", image))
 }
 
 // `card-read IMAGE`.

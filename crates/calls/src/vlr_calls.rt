@@ -1,10 +1,11 @@
 // The calls of the node.
 use call_lines::call;
-use call_lines::call::{Call, LONGEST};
+use call_lines::call::{Call, LONGEST, Words};
 use call_lines::text::Text;
 use vlr::{Kind, Outcome, Reply, State, Vlr};
 use vlr_steps::no_octets;
 
+// The words of the node.
 #[derive(Clone, Copy)]
 enum Word {
     New,
@@ -20,7 +21,7 @@ enum Word {
     Abandon,
 }
 
-impl Word {
+impl Words for Word {
     fn of(word: &[u8]) -> Option<Word> {
         match word {
             b"vlr-new" => Some(Word::New),
@@ -74,8 +75,7 @@ pub fn answer(vlr: Vlr, line: &[u8]) -> Answered {
 // What the node replies to a line; nothing where it is no call of the node.
 fn reply(vlr: Vlr, line: &[u8]) -> Option<Reply> {
     let mut store = [0u8; LONGEST];
-    let word = Word::of(call::word(line))?;
-    let c = call::read(word.form(), line, &mut store)?;
+    let (word, c) = call::read::<Word>(line, &mut store)?;
     Some(match word {
         Word::New => no_octets(Outcome::Done, vlr::new()),
         Word::Record => no_octets(Outcome::Done, record(&c)),

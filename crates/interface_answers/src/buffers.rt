@@ -5,7 +5,7 @@ ghost use Rattle.interface_answers.specs.Answers.{are_keys};
 
 use functions::Keys;
 
-// Whether K and OP or OPc have their sizes.
+// Whether K and OP or OPc have their sizes. RAND and AUTS have a test of their own in `auc`: one for both would be no shorter.
 #[tactic(auto, unfolding(crate::specs::Answers::are_keys))]
 pub fn are_keys(k: &[u8], op: &[u8]) -> bool
     ensures { result ≡ are_keys k.now op.now }

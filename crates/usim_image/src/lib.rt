@@ -113,6 +113,7 @@ impl ImageFormat for UsimFormat {
     }
 }
 
+// It and `read` stay as names over the one writing and reading of `images`: the calls of C and docs/ go by them.
 // Writes the image of `usim`. A refusal leaves the buffer as it was.
 pub fn write(usim: Usim, buffer: &mut [u8]) -> Result<(), Refusal>
     ensures { written_of (refusal_in result) buffer.new ≡ write_answer (format editions sets) (usim_of usim) buffer.old }
