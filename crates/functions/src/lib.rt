@@ -91,7 +91,7 @@ impl PreparedKeys {
 }
 
 impl PreparedRand<'_> {
-    // MAC: f1 of SQN, RAND and AMF.
+    // MAC: f1 of SQN, RAND and AMF. SQN and AMF stand apart here and below, as in the standard: a struct would be made for each call.
     pub fn f1(&self, sqn: [u8; aka::SQN_SIZE], amf: [u8; aka::AMF_SIZE]) -> [u8; aka::MAC_SIZE]
         ensures { result ≡ (outputs_from self.now).f1 sqn amf }
     {

@@ -127,7 +127,7 @@ fn admit(usim: Usim, rand: &[u8], autn: &[u8]) -> Result<Card, Refusal>
     Ok(Card { usim })
 }
 
-// The USIM's whole answer to a challenge of any octets.
+// The USIM's whole answer to a challenge of any octets. RAND and AUTN are lent apart, as the node and C have them.
 pub fn challenge(usim: Usim, rand: &[u8], autn: &[u8]) -> Answer
     ensures answer { answer_of result ≡ challenge_of editions sets (usim_of usim) rand.now autn.now }
     ensures sqn { SqnTold result.verdict (usim_of usim) rand.now autn.now }
