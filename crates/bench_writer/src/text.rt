@@ -4,7 +4,7 @@ ghost use Rattle.fields.specs.Fields.{most_digits};
 ghost use Rattle.aka.specs.Layout.{sqn_size};
 ghost use Rattle.bench_writer.specs.Replies.{decimal_text, room, sqn_text};
 
-// The text is the first `used` bytes; it has room for every answer.
+// The text is the first `used` bytes; it has room for every answer. An array with its size, since there is no heap.
 #[derive(Clone, Copy, Drop)]
 pub struct Text {
     pub bytes: [u8; crate::ROOM],

@@ -35,7 +35,7 @@ fn derive_opc(k: &[u8], op: &[u8], opc: &mut [u8]) -> Result<u64, Refusal>
     Ok(0)
 }
 
-// The keys of a new record, whose edition is known too.
+// The keys of a new record, whose edition is known too. Edition, set, K and OPc stand apart, as C lends them.
 #[tactic(auto, unfolding(crate::specs::Interface::new_keys_refusal))]
 fn new_keys(edition: u8, set: u8, k: &[u8], opc: &[u8]) -> Result<Keys, Refusal>
     ensures refusal { refusal_in result ≡ new_keys_refusal edition set k.now opc.now }
