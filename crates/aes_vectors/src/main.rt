@@ -41,7 +41,8 @@ fn ciphertext(line: &[u8], out: &mut [u8]) -> bool
     false
 }
 
-// Writes the answer to a line to the front of `text`, which has room for it, and returns its length.
+// Writes the answer to a line to the front of `text`, which has room for it, and returns its length. The fact on the room stays in
+// the contract: `text` is a lent buffer, whose size the caller of `console: answer_all` chooses, and a type for it would be no plainer.
 fn write_answer(line: &[u8], text: &mut [u8]) -> usize
     requires { room ≤ length text.old }
     ensures { take result text.new ≡ answer_text line.now }

@@ -2,18 +2,16 @@
 // its answer is `MAC MACS RES CK IK AK AKS`, `refused 1` for a set that is not known, or `bad line`.
 #![tactic(auto)]
 
-ghost use Rattle.std.specs.Prelude.{ℕ, ◌+◌, ◌-◌, ◌*◌, ◌≤◌, ◌<◌, true, List, [], ◌∷◌, ◌++◌, ◌≡◌, get_or, length, take};
+ghost use Rattle.std.specs.Prelude.{ℕ, ◌+◌, ◌*◌, ◌≤◌, ◌<◌, true, false, MatchOption, List, [], ◌∷◌, ◌++◌, ◌≡◌, length, take};
 ghost use Rattle.octets.specs.Ascii.{ascii};
-ghost use Rattle.octets.specs.Octets.{zeros};
 ghost use Rattle.hex_digits.specs.Hex.{hex};
-ghost use Rattle.fields.specs.Fields.{read_field_into};
-ghost use Rattle.aka.specs.Layout.{key_size, rand_size, sqn_size, amf_size};
 ghost use Rattle.functions.specs.Sets.{sets};
 ghost use Rattle.functions.specs.Challenge.{keys_of};
 ghost use Rattle.console.specs.Turns.{Gives, Ran, standing_of};
 ghost use Rattle.function_vectors.specs.Outputs.{Answers};
-ghost use Rattle.function_vectors.specs.Answer.{amf_at, k_at, line_size, macs_size, opc_at, rand_at, room, sqn_at};
-ghost use Rattle.function_vectors.specs.Answer.{answer_text, challenge_formed, keys_formed, line_answer, outputs_text};
+ghost use Rattle.function_vectors.specs.Answer.{line_answer, line_size, macs_size, room};
+ghost use Rattle.function_vectors.specs.Answer.{answer_text, challenge_formed, keys_formed, keys_on, outputs_text, well_formed};
+ghost use Rattle.function_vectors.specs.Challenge.{challenge_on};
 
 use console::{Console, Program, Progress};
 use functions::{Keys, PreparedKeys, ResAk};
@@ -53,15 +51,18 @@ pub struct Outputs {
     pub aks: [u8; aka::SQN_SIZE],
 }
 
+#[derive(Drop)]
+pub struct Challenge {
+    pub rand: [u8; aka::RAND_SIZE],
+    pub sqn: [u8; aka::SQN_SIZE],
+    pub amf: [u8; aka::AMF_SIZE],
+}
+
 // The seven outputs under one subscriber's keys, with one key schedule and one T.
-fn seven(
-    keys: Keys,
-    rand: [u8; aka::RAND_SIZE],
-    sqn: [u8; aka::SQN_SIZE],
-    amf: [u8; aka::AMF_SIZE],
-) -> Outputs
-    ensures { Answers (sets.under (keys_of keys)) rand sqn amf result }
+fn seven(keys: Keys, challenge: Challenge) -> Outputs
+    ensures { Answers (sets.under (keys_of keys)) challenge.rand challenge.sqn challenge.amf result }
 {
+    let Challenge { rand, sqn, amf } = challenge;
     let keys = PreparedKeys::new(keys);
     let prepared = keys.prepare(rand);
     let mac = prepared.f1(sqn, amf);
@@ -127,90 +128,70 @@ fn put_outputs(text: &mut [u8], o: &Outputs) -> usize
 
 // ---- the line
 
-// The keys on a line, and whether they are well formed.
-#[derive(Drop)]
-pub struct ReadKeys {
-    pub formed: bool,
-    pub keys: Keys,
-}
-
-fn read_keys(line: &[u8]) -> ReadKeys
+// The keys on a line, where they are well formed.
+#[tactic(auto, using(crate::proofs::Texts::keys_forms))]
+fn read_keys(line: &[u8]) -> Option<Keys>
     requires { length line.now ≡ line_size }
-    ensures formed { result.formed ≡ keys_formed line.now }
-    ensures set { keys_formed line.now ≡ true → result.keys.set ≡ get_or line.now 0 0 - 48 }
-    ensures octets { (result.keys.k ≡ read_field_into (zeros key_size) k_at line.now)
-        × (result.keys.opc ≡ read_field_into (zeros key_size) opc_at line.now) }
+    ensures { MatchOption result (keys_formed line.now ≡ false) (λ keys. (keys_formed line.now ≡ true)
+        × (keys_of keys ≡ keys_on line.now)) }
 {
+    let digit @ b'0'..=b'9' = line[0] else {
+        return None;
+    };
     let mut k = [0u8; aka::KEY_SIZE];
     let mut opc = [0u8; aka::KEY_SIZE];
     let fields = fields::hex_field(line, K_AT, &mut k) & fields::hex_field(line, OPC_AT, &mut opc);
-    let c = line[0];
-    if c < b'0' {
-        return ReadKeys {
-            formed: false,
-            keys: Keys { set: 0, k, opc },
-        };
+    if !fields {
+        return None;
     }
-    ReadKeys {
-        formed: (c <= b'9') & fields,
-        keys: Keys {
-            set: c - b'0',
-            k,
-            opc,
-        },
-    }
+    let set = digit - b'0';
+    Some(Keys { set, k, opc })
 }
 
-// The challenge on a line, and whether it is well formed.
-#[derive(Drop)]
-pub struct ReadChallenge {
-    pub formed: bool,
-    pub rand: [u8; aka::RAND_SIZE],
-    pub sqn: [u8; aka::SQN_SIZE],
-    pub amf: [u8; aka::AMF_SIZE],
-}
-
-fn read_challenge(line: &[u8]) -> ReadChallenge
-    ensures formed { result.formed ≡ challenge_formed line.now }
-    ensures octets { (result.rand ≡ read_field_into (zeros rand_size) rand_at line.now)
-        × (result.sqn ≡ read_field_into (zeros sqn_size) sqn_at line.now)
-        × (result.amf ≡ read_field_into (zeros amf_size) amf_at line.now) }
+// The challenge on a line, where it is well formed.
+#[tactic(auto, using(crate::proofs::Texts::challenge_forms))]
+fn read_challenge(line: &[u8]) -> Option<Challenge>
+    ensures { MatchOption result (challenge_formed line.now ≡ false) (λ challenge. (challenge_formed line.now ≡ true)
+        × (challenge ≡ challenge_on line.now)) }
 {
     let mut rand = [0u8; aka::RAND_SIZE];
     let mut sqn = [0u8; aka::SQN_SIZE];
     let mut amf = [0u8; aka::AMF_SIZE];
-    let formed = fields::hex_field(line, RAND_AT, &mut rand)
-        & (fields::hex_field(line, SQN_AT, &mut sqn) & fields::hex_field(line, AMF_AT, &mut amf));
-    ReadChallenge {
-        formed,
-        rand,
-        sqn,
-        amf,
+    let fields = fields::hex_field(line, RAND_AT, &mut rand)
+        & fields::hex_field(line, SQN_AT, &mut sqn)
+        & fields::hex_field(line, AMF_AT, &mut amf);
+    if !fields {
+        return None;
     }
+    Some(Challenge { rand, sqn, amf })
+}
+
+// What is on a line that is well formed.
+#[tactic(auto, using(crate::proofs::Texts::forms))]
+fn read_line(line: &[u8]) -> Option<(Keys, Challenge)>
+    ensures { MatchOption result (well_formed line.now ≡ false)
+        (λ on. (well_formed line.now ≡ true) × (keys_of on.0 ≡ keys_on line.now) × (on.1 ≡ challenge_on line.now)) }
+{
+    if line.len() != LINE_SIZE {
+        return None;
+    }
+    Some((read_keys(line)?, read_challenge(line)?))
 }
 
 // Writes the answer to a line to the front of `text`, which has room for it, and returns its length. The form of a line comes before its
-// set.
+// set. The fact on the room stays in this contract and those above: `text` is a lent buffer, whose size the caller of `console: answer_all`
+// chooses, and a type for it would be no plainer.
 fn write_answer(line: &[u8], text: &mut [u8]) -> usize
     requires { room ≤ length text.old }
     ensures { take result text.new ≡ answer_text line.now }
 {
-    if line.len() != LINE_SIZE {
+    let Some((keys, challenge)) = read_line(line) else {
         return console::append(text, 0, b"bad line\n");
-    }
-    let read = read_keys(line);
-    let challenge = read_challenge(line);
-    if !(read.formed & challenge.formed) {
-        return console::append(text, 0, b"bad line\n");
-    }
-    let keys = read.keys;
+    };
     if !functions::is_known(keys.set) {
         return console::append(text, 0, b"refused 1\n");
     }
-    let rand = challenge.rand;
-    let sqn = challenge.sqn;
-    let amf = challenge.amf;
-    put_outputs(text, &seven(keys, rand, sqn, amf))
+    put_outputs(text, &seven(keys, challenge))
 }
 
 // ---- the program

@@ -9,7 +9,7 @@ use Rattle.function_vectors.proofs.seven.Goals as goal
 pub returns : goal.returns
 returns c =
     let prepared = c.prepare-prepared in
-    let made = subst (λ (keys : Keys). Prepared (keys_of keys) c.args.rand prepared.result) c.new-keys.ensures prepared.ensures in
+    let made = subst (λ (keys : Keys). Prepared (keys_of keys) c.args.challenge.rand prepared.result) c.new-keys.ensures prepared.ensures in
     let law = gives _ _ prepared.result made in
     record {
       mac = c.f1-mac.ensures ∙ law.f1 _ _;
