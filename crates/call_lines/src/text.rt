@@ -6,7 +6,8 @@ use functions::Keys;
 // than its line.
 pub const LONGEST_ANSWER: usize = LONGEST + 31;
 
-// The bytes of an answer without its newline, so far. An array with its size, since there is no heap.
+// The bytes of an answer without its newline, so far. An array with its size, since there is no heap. The bench has a text of its own,
+// which asks for room and promises each byte; this one is cut where it is full.
 #[derive(Clone, Copy)]
 pub struct Text {
     bytes: [u8; LONGEST_ANSWER],
