@@ -101,11 +101,12 @@ def twins():
             named[f].append((name, n, body))
     found = [set(same) for same in groups.values() if len(same) > 1]
     for f, places in named.items():
-        near = {places[0][:2]}
-        for name, n, body in places[1:]:
-            words = [re.findall(r"\w+|[^\w\s]", x) for x in (places[0][2], body)]
-            if name.split("/")[0] != places[0][0].split("/")[0] and difflib.SequenceMatcher(None, *words).ratio() > 0.6:
-                near.add((name, n))
+        near = set()
+        for i, (name, n, body) in enumerate(places):
+            for other, m, its in places[i + 1 :]:
+                words = [re.findall(r"\w+|[^\w\s]", x) for x in (body, its)]
+                if name.split("/")[0] != other.split("/")[0] and difflib.SequenceMatcher(None, *words).ratio() > 0.6:
+                    near |= {(name, n), (other, m)}
         same = {f"{name}:{n}: fn {f}" for name, n in near}
         if len(same) > 1 and not any(same <= other for other in found):
             found = [other for other in found if not other <= same] + [same]
@@ -158,7 +159,7 @@ def buffers():
     for name, n, struct, body in items("struct"):
         arrays = re.findall(r"^    (?:pub )?(\w+): \[\w+; ([^\]]*)\],$", body, re.M)
         sizes = [s for _, s in arrays]
-        if re.search(r"^    (?:pub )?(size|held|used|len): (u8|usize),$", body, re.M) and arrays:
+        if re.search(r"^    (?:pub )?(size|held|used|len|count): (u8|usize),$", body, re.M) and (arrays or ": Queue," in body):
             yield f"{name}:{n}: struct {struct}: an array and its length"
         if any(k > 1 for k in collections.Counter(s for s in sizes if s.startswith("MOST")).values()):
             yield f"{name}:{n}: struct {struct}: arrays of one length"
@@ -190,5 +191,5 @@ for point, what, found in points:
     print(f"\n{point} {what}: {len(found)}")
     for place in found:
         print("   ", place)
-answers = glob.glob(os.path.join(top, "crates/*/proofs/*/Answers.antt"))
+answers = glob.glob(os.path.join(top, "crates/*/proofs/*/**/Answers.antt"), recursive=True)
 print(f"\n8 answers of functions in proofs/: {len(answers)}")

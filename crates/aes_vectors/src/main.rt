@@ -17,7 +17,7 @@ const LINE_SIZE: usize = 65;
 // Room for every answer.
 const ROOM: usize = 33;
 
-// One block under a key, as octets. `milenage: opc` has a private one, of blocks.
+// One block under a key, as octets. It is not shared with `milenage: opc`, which has blocks: a public one would serve this program alone.
 fn encrypted(key: [u8; 16], block: [u8; 16]) -> [u8; 16]
     ensures { result ≡ aes key block }
 {
@@ -91,7 +91,7 @@ fn answer_all<R: Read, W: Write, E: Write>(
     console::answer_all(&mut Vectors, console, piece, line, &mut [0u8; ROOM], out)
 }
 
-// The mains of the programs differ in all but the order of their lines, as their `answer_all` do in what they promise.
+// Each program has its own length of a line and its own `answer_all`, with what it promises: so each has this and that.
 // A line is held up to one byte more than a good line has, so that a longer one is seen to be longer.
 fn main(rt: HostRuntime) {
     let mut console = Console {

@@ -142,7 +142,7 @@ fn outcome(outcome: Outcome, n: u8) -> Text {
 
 // Refusal 4 with its pair.
 fn repeated(first: u8, second: u8) -> Text {
-    let mut text = Text::refused(4);
+    let mut text = Text::refused(Refusal::SameRand.number());
     text.put_number(first as u64);
     text.put_number(second as u64);
     text

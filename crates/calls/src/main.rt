@@ -61,7 +61,7 @@ pub struct Turn {
     pub progress: Progress,
 }
 
-// Answers every line of the input. The buffer of answers has room for two.
+// Answers every line of the input. The buffer of answers has room for two: a fact of the contract, since a program lends the buffer.
 fn answer_all<R: Read, W: Write, E: Write>(
     console: &mut Console<R, W, E>,
     piece: &mut [u8],
@@ -81,7 +81,7 @@ fn answer_all<R: Read, W: Write, E: Write>(
     }
 }
 
-// The mains of the programs differ in all but the order of their lines.
+// Each program has its own length of a line, its own `answer_all` and its own turn, with what it promises: so each has these.
 // A line is held up to one byte more than the longest that is answered, so that a longer one is seen to be longer.
 fn main(rt: HostRuntime) {
     let mut console = Console {

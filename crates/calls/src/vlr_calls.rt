@@ -91,7 +91,7 @@ fn reply(vlr: Vlr, line: &[u8]) -> Option<Reply> {
     })
 }
 
-// The digit KIND, 0 or 1: so no TryFrom here either.
+// Of the digit KIND, which is a mark: so no TryFrom, whose error could not come.
 fn kind_of(is_triplet: bool) -> Kind {
     if is_triplet {
         Kind::Triplet
@@ -110,7 +110,7 @@ fn record(c: &Call) -> Vlr {
     }
 }
 
-// A number of at most 2, as the form has it: so no TryFrom, whose error could not come.
+// Of a number of at most 2, as the form has it: so no TryFrom, whose error could not come.
 fn state_of(number: u64) -> State {
     match number {
         0 => State::Idle,

@@ -230,7 +230,7 @@ fn answer_all<R: Read, W: Write, E: Write>(
     console::answer_all(&mut Vectors, console, piece, line, &mut [0u8; ROOM], out)
 }
 
-// The mains of the programs differ in all but the order of their lines, as their `answer_all` do in what they promise.
+// Each program has its own length of a line and its own `answer_all`, with what it promises: so each has this and that.
 // A line is held up to one byte more than a good line has, so that a longer one is seen to be longer.
 fn main(rt: HostRuntime) {
     let mut console = Console {
