@@ -89,7 +89,7 @@ fn resume(
     match resynchronisation::decide(&keys, auc.edition, rand, auts, auc.seqhe, rands.n) {
         Ok(Ruling::Kept(from)) => generate(&keys, Outcome::Kept, auc, from, rands, batch),
         Ok(Ruling::Reset(from)) => generate(&keys, Outcome::Reset, auc, from, rands, batch),
-        Err(refusal) => auc_record::refused(refusal.into(), auc),
+        Err(refused) => auc_record::refused(refused.refusal.into(), auc),
     }
 }
 

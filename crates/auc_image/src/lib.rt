@@ -18,7 +18,7 @@ ghost use Rattle.auc_image.specs.Views.{read_of};
 
 use aka::Refusal;
 use auc_record::Auc;
-use images::ImageFormat;
+use images::{ImageFormat, Refused};
 
 // Where AMF begins, and where the counters: SEQ_HE and the next index.
 const AMF_AT: usize = images::HEAD_SIZE;
@@ -97,7 +97,7 @@ pub fn write(auc: Auc, buffer: &mut [u8]) -> Result<(), Refusal>
 }
 
 // Reads an image of any length and contents.
-pub fn read(image: &[u8]) -> Result<Auc, Refusal>
+pub fn read(image: &[u8]) -> Result<Auc, Refused<Auc>>
     ensures answer { read_of result ≡ read_answer (format editions sets) image.now }
     ensures sound { IfOk result (λ auc. IsSound (format editions sets) image.now (auc_of auc)) }
 {

@@ -11,7 +11,7 @@ ghost use Rattle.bench_reader.specs.Commands.{is_word as is_word_of, read as rea
 ghost use Rattle.bench_reader.specs.Views.{command_of};
 
 use functions::Keys;
-pub use rands::Rands;
+pub use rands::{RANDS_SIZE, Rands};
 
 // The longest line that is no bad line, in bytes.
 pub const LONGEST: usize = 512;

@@ -1,6 +1,6 @@
 // Reading the line of a call by its form.
-ghost use Rattle.std.specs.Prelude.{◌≤◌};
-ghost use Rattle.call_lines.specs.Limits.{longest, most_lent};
+ghost use Rattle.std.specs.Prelude.{◌≤◌, ◌≡◌};
+ghost use Rattle.call_lines.specs.Limits.{longest, most_fields, most_lent};
 
 use functions::Keys;
 
@@ -107,9 +107,19 @@ fn read_field(kind: u8, line: &[u8], at: usize, store: &mut [u8]) -> Option<(u64
     }
 }
 
+// The most fields of a line, as the definition has it.
+fn fields_held() -> usize
+    ensures { result ≡ most_fields }
+{
+    MOST_FIELDS
+}
+
 // The call of a line, one field for each letter of the form; none where the fields are not so, or more stands behind them.
 fn read_fields<'a>(form: &[u8], line: &[u8], from: usize, store: &'a mut [u8]) -> Option<Call<'a>> {
     let mut fields = [Field { start: 0, value: 0 }; MOST_FIELDS];
+    if fields_held() < form.len() {
+        return None;
+    }
     let mut at = from;
     for (field, kind) in fields.iter_mut().zip(form) {
         let (value, end) = read_field(*kind, line, at, store)?;
@@ -179,11 +189,13 @@ impl<'a> Call<'a> {
         console::first_bytes(&self.store[field.start..], field.value as usize)
     }
 
-    // The same at the front of an array, and zeros behind them.
+    // The same at the front of an array, and zeros behind them; zeros alone where they are more.
     pub fn array<const N: usize>(&self, i: usize) -> [u8; N] {
         let mut array = [0u8; N];
-        let part = console::first_bytes(self.part(i), N);
-        array[..part.len()].copy_from_slice(part);
+        let part = self.part(i);
+        if part.len() <= N {
+            array[..part.len()].copy_from_slice(part);
+        }
         array
     }
 

@@ -77,8 +77,11 @@ impl Text {
         self.put(&digits[..k]);
     }
 
-    // Puts a space and octets.
+    // Puts a space and octets; nothing where the longest line has no room for them.
     pub fn put_octets(&mut self, octets: &[u8]) {
+        if LONGEST / 2 <= octets.len() {
+            return;
+        }
         let mut digits = [0u8; LONGEST];
         let end = write_hex(octets, &mut digits);
         self.put(b" ");

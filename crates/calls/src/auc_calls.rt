@@ -62,7 +62,7 @@ impl Answers for Word {
 
 // The record of the image in the first field.
 fn record_in(c: &Call) -> Result<Auc, Refusal> {
-    auc_image::read(c.part(0))
+    Ok(auc_image::read(c.part(0))?)
 }
 
 // `auc-new EDITION SET K OPC AMF`.

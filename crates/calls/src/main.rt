@@ -7,7 +7,7 @@ mod image_calls;
 mod usim_calls;
 mod vlr_calls;
 
-ghost use Rattle.std.specs.Prelude.{ℕ, ◌+◌, ◌*◌, ◌≤◌, List, length};
+ghost use Rattle.std.specs.Prelude.{ℕ, ◌+◌, ◌*◌, ◌≤◌, ◌≡◌, List, length};
 ghost use Rattle.aka.specs.Vlr as spec;
 ghost use Rattle.vlr_record.specs.Views.{vlr_of};
 ghost use Rattle.console.specs.Turns.{Ran, standing_of};
@@ -37,6 +37,15 @@ pub struct Desk {
     pub node: Vlr,
 }
 
+impl Desk {
+    // The node that an answer left is the next line's.
+    fn carry_on(&mut self, node: Vlr)
+        ensures { vlr_of self.new.node ≡ vlr_of node }
+    {
+        self.node = node;
+    }
+}
+
 impl Program for Desk {
     ghost State = { spec.Vlr };
 
@@ -48,7 +57,7 @@ impl Program for Desk {
 
     fn answer(&mut self, line: &[u8], text: &mut [u8]) -> usize {
         let answered = answer_line(self.node, line);
-        self.node = answered.vlr;
+        self.carry_on(answered.vlr);
         let n = console::append(text, 0, answered.text.bytes());
         console::append(text, n, b"\n")
     }

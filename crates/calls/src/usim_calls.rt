@@ -50,7 +50,7 @@ impl Answers for Word {
 
 // The record of the image in field `i`.
 pub fn card_in(c: &Call, i: usize) -> Result<Usim, Refusal> {
-    usim_image::read(c.part(i))
+    Ok(usim_image::read(c.part(i))?)
 }
 
 // `card-new EDITION SET K OPC`. The buffer lent has the size of the edition's image.

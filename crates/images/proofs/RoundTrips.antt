@@ -8,7 +8,7 @@ use borrow.Author.Tests.{eqb-true, eqb-false}
 use lib.Dec.{eqb}
 use lib.ListN.{length}
 use Rattle.std.specs.Prelude.{Result, Ok, Err, IfOk}
-use Rattle.aka.specs.declared.Refusal.{Refusal}
+use Rattle.images.specs.declared.Refused.{Refused}
 use Rattle.octets.specs.Octets.{Octets, Below}
 use Rattle.octets.proofs.Refusals.{passed}
 use Rattle.aka.specs.Editions.{is_edition}
@@ -95,7 +95,7 @@ module _ {R : Type 0} (format : Format R) (Shaped : R → Type 0) where
 
 -- what the code read is sound
 pub sound_read : {A R : Type 0} (format : Format R) (Shaped : R → Type 0) (trips : RoundTrips format Shaped) (view : A → R)
-    (x : Octets) (r : Result A Refusal) → read_of format view r ≡ read_answer format x → IfOk r (λ held. IsSound format x (view held))
+    (x : Octets) (r : Result A (Refused A)) → read_of view r ≡ read_answer format x → IfOk r (λ held. IsSound format x (view held))
 sound_read format Shaped trips view x (Ok held) e =
     rw (← e) at (trips.sound x (ap (λ (a : Read _). a.refusal) (sym e)))
-sound_read format Shaped trips view x (Err refusal) e = tt
+sound_read format Shaped trips view x (Err refused) e = tt

@@ -4,8 +4,8 @@ use Rattle.std.specs.Prelude.{ℕ, Bool, true, not, cond, ◌≡◌, eqb, length
 use Rattle.octets.specs.Octets.{Octets, Below}
 use Rattle.aka.specs.Editions.{is_edition}
 use Rattle.aka.specs.Refusals.{number_of}
-use Rattle.aka.specs.declared.Refusal.{Refusal}
 use Rattle.images.specs.Head.{edition_in}
+use Rattle.images.specs.declared.Refused.{Refused}
 
 -- how records of the type R are packed
 pub record Format (R : Type 0) : Type 0 where
@@ -64,7 +64,6 @@ module _ {R : Type 0} (format : Format R) where
 abbrev pub written_of : (refusal : ℕ) (buffer : Octets) → Written
 written_of refusal buffer = record { refusal = refusal; image = buffer }
 
--- an `Err` stands for its refusal's number and the record of zeros
-abbrev pub read_of : {A R : Type 0} → Format R → (view : A → R) → Result A Refusal → Read R
-read_of format view (Ok contents) = record { refusal = 0; contents = view contents }
-read_of format view (Err refusal) = refused_read format (number_of refusal)
+abbrev pub read_of : {A R : Type 0} → (view : A → R) → Result A (Refused A) → Read R
+read_of view (Ok contents) = record { refusal = 0; contents = view contents }
+read_of view (Err r) = record { refusal = number_of r.refusal; contents = view r.contents }

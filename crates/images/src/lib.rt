@@ -102,7 +102,7 @@ pub trait ImageFormat {
         requires { length image.now ≡ format.size (edition_in image.now) }
         ensures { view result ≡ format.record_in image.now };
 
-    // The record for which a refused reading stands.
+    // The record of a refused reading.
     fn zero() -> Self::Record
         ensures { view result ≡ format.zero };
 
@@ -110,6 +110,31 @@ pub trait ImageFormat {
     ghost admits_heads: { (x : Octets) → format.admitted x ≡ admitted_head sets x };
 
     ghost holds_head: { (edition : ℕ) → head_size ≤ format.size edition };
+}
+
+// A refused reading: the rest of its answer is a record of zeros.
+#[derive(Drop)]
+pub struct Refused<R> {
+    pub refusal: Refusal,
+    pub contents: R,
+}
+
+impl<R: Drop> From<Refused<R>> for Refusal {
+    ghost from_gives = { λ refused refusal. refusal ≡ refused.refusal };
+
+    fn from(value: Refused<R>) -> Refusal {
+        value.refusal
+    }
+}
+
+// The answer of a refused reading.
+fn refused_read<F: ImageFormat>(refusal: Refusal) -> Refused<F::Record>
+    ensures { (result.refusal ≡ refusal) × (F.view result.contents ≡ F.format.zero) }
+{
+    Refused {
+        refusal,
+        contents: F::zero(),
+    }
 }
 
 // Writes the image of a record. A refusal leaves the buffer as it was.
@@ -129,21 +154,21 @@ pub fn write<F: ImageFormat>(held: F::Record, buffer: &mut [u8]) -> Result<(), R
 
 // Reads an image of any length and contents.
 #[tactic(auto, unfolding(crate::specs::Images::read_answer))]
-pub fn read<F: ImageFormat>(image: &[u8]) -> Result<F::Record, Refusal>
-    ensures { read_of F.format F.view result ≡ read_answer F.format image.now }
+pub fn read<F: ImageFormat>(image: &[u8]) -> Result<F::Record, Refused<F::Record>>
+    ensures { read_of F.view result ≡ read_answer F.format image.now }
 {
     if image.is_empty() {
-        return Err(Refusal::Length);
+        return Err(refused_read::<F>(Refusal::Length));
     }
     let edition = edition_in(image);
     if !editions::is_known(edition) {
-        return Err(Refusal::Invalid);
+        return Err(refused_read::<F>(Refusal::Invalid));
     }
     if image.len() != F::size(edition) {
-        return Err(Refusal::Length);
+        return Err(refused_read::<F>(Refusal::Length));
     }
     if !functions::admits(edition, keys_in(image)) {
-        return Err(Refusal::Invalid);
+        return Err(refused_read::<F>(Refusal::Invalid));
     }
     Ok(F::unpack(image))
 }

@@ -24,6 +24,13 @@ pub enum Ruling {
     Reset(u64),
 }
 
+// MAC-S is wrong. No batch follows the ruling: it is what a right MAC-S would rule.
+#[derive(Clone, Copy, Drop)]
+pub struct Refused {
+    pub refusal: Refusal,
+    pub ruling: Ruling,
+}
+
 // Whether SEQ_HE is at least SEQ_MS and no number of the batch passes SEQ_MS + D.
 #[tactic(auto, unfolding(aka::specs::Auc::in_range))]
 fn in_range(seqhe: u64, seqms: u64, n: u8) -> bool
@@ -63,7 +70,7 @@ pub fn decide(
     auts: [u8; aka::AUTS_SIZE],
     seqhe: u64,
     n: u8,
-) -> Result<Ruling, Refusal>
+) -> Result<Ruling, Refused>
     requires { (n ≤ most_vectors) × (seqhe ≤ limit (width_of editions edition)) }
     ensures { Ruled (width_of editions edition) (sets.under (keys_of keys.now.keys)) rand auts seqhe n result }
 {
@@ -76,6 +83,9 @@ pub fn decide(
     } else if mac_s_right(&prepared, sqn, auts) {
         Ok(Ruling::Reset(ms))
     } else {
-        Err(Refusal::MacS)
+        Err(Refused {
+            refusal: Refusal::MacS,
+            ruling: Ruling::Reset(ms),
+        })
     }
 }

@@ -30,12 +30,14 @@ fn sqn_amf(sqn: [u8; 6], amf: [u8; 2]) -> [u8; 8]
     ]
 }
 
-// Turned left by `n` octets.
+// Turned left by `n` octets, by two copies: for the library's `rotate_left`, which has any n and any length in view, an order of five
+// took half as long again.
 pub fn turned_left(x: [u8; 16], n: usize) -> [u8; 16]
     requires { n ≤ 16 }
     ensures { result ≡ turn_left n x }
 {
-    let mut turned = x;
-    turned.rotate_left(n);
+    let mut turned = [0u8; 16];
+    octets::put(&mut turned, 0, &x[n..]);
+    octets::put(&mut turned, 16 - n, &x[..n]);
     turned
 }

@@ -17,7 +17,7 @@ ghost use Rattle.usim_image.specs.Image.{format, image_size, places_at, places_s
 ghost use Rattle.usim_image.specs.Views.{read_of};
 
 use aka::Refusal;
-use images::ImageFormat;
+use images::{ImageFormat, Refused};
 use usim_record::Usim;
 
 // Where the places begin.
@@ -122,7 +122,7 @@ pub fn write(usim: Usim, buffer: &mut [u8]) -> Result<(), Refusal>
 }
 
 // Reads an image of any length and contents.
-pub fn read(image: &[u8]) -> Result<Usim, Refusal>
+pub fn read(image: &[u8]) -> Result<Usim, Refused<Usim>>
     ensures answer { read_of result ≡ read_answer (format editions sets) image.now }
     ensures sound { IfOk result (λ usim. IsSound (format editions sets) image.now (usim_of usim)) }
 {

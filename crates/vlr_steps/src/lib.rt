@@ -88,6 +88,17 @@ pub fn refused(vlr: Vlr, refusal: Refusal) -> Reply
     no_octets(Outcome::from(refusal), vlr)
 }
 
+// The answer to a refusal's number, or, where it is 0, this one.
+#[tactic(auto, unfolding(aka::specs::Vlr::unless_refused))]
+pub fn unless_refused(vlr: Vlr, number: u8, reply: Reply) -> Reply
+    ensures { answer_of result ≡ spec.unless_refused (vlr_of vlr) number (answer_of reply) }
+{
+    if number == 0 {
+        return reply;
+    }
+    no_octets(Outcome::Refused(number), vlr)
+}
+
 // The refusal's answer, or, where there is none, this one.
 #[tactic(auto, unfolding(aka::specs::Vlr::unless_refused))]
 pub fn answered(vlr: Vlr, refusal: Result<(), Refusal>, reply: Reply) -> Reply

@@ -1,5 +1,5 @@
 -- `resume` is refusal 5, else the batch from SEQ_HE, kept or reset.
-use Rattle.std.proofs.Common.{ℕ, Bool, cond, ◌≡◌, refl, sym, ap, ap₂, ◌∙◌}
+use Rattle.std.proofs.Common.{ℕ, Bool, false, cond, ◌≡◌, refl, sym, ap, ap₂, ◌∙◌}
 use Rattle.octets.specs.Octets.{Octets}
 use Rattle.functions.specs.Sets.{sets}
 use Rattle.aka.specs.Sequence.{width_of}
@@ -20,7 +20,7 @@ module _ (auc : Auc) (rand auts rands buffer : Octets) (n : ℕ) where
   abbrev told : (x : ℕ) (keeps : Bool) → AucAnswer
   told x keeps = answer_with editions sets auc x rands n buffer (unless_past editions sets auc x n (cond keeps kept reset))
 
-  follows : (r : Ruling) → Follows (width_of editions auc.edition) (sets.under auc.keys) rand auts auc.seqhe n r
+  follows : (r : Ruling) → Follows (width_of editions auc.edition) (sets.under auc.keys) rand auts auc.seqhe n false r
       → told (from_in r) (kept_in r) ≡ answer_with editions sets auc from rands n buffer (auts_outcome editions sets auc rand auts n)
   follows r ruled =
       ap₂ told ruled.from ruled.kept
@@ -45,6 +45,6 @@ returns-in-Err c =
     let auc = auc_of a.auc in
     let from = resync_from editions sets auc a.rand a.auts a.rands.n in
     let told = rw (c.into.ensures, c.in-Err.ensures.1) at (c.refused.ensures a.batch.now) in
-    let five = auts_five editions sets auc a.rand a.auts a.rands.n (rw c.new-keys.ensures at c.in-Err.ensures.0) in
+    let five = auts_five editions sets auc a.rand a.auts a.rands.n (rw c.new-keys.ensures at c.in-Err.ensures.0.refused) in
     let none = answer_refused editions sets auc from a.rands.octets.now a.rands.n a.batch.now (refused 5) refl in
     told ∙ sym (ap (answer_with editions sets auc from a.rands.octets.now a.rands.n a.batch.now) five ∙ none)
