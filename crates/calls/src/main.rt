@@ -38,11 +38,13 @@ pub struct Desk {
 }
 
 impl Desk {
-    // The node that an answer left is the next line's.
-    fn carry_on(&mut self, node: Vlr)
-        ensures { vlr_of self.new.node ≡ vlr_of node }
+    // Writes the text of an answer and a newline. The node that it left is the next line's.
+    fn hand_on(&mut self, answered: Answered, text: &mut [u8]) -> usize
+        ensures { vlr_of self.new.node ≡ vlr_of answered.vlr }
     {
-        self.node = node;
+        self.node = answered.vlr;
+        let n = console::append(text, 0, answered.text.bytes());
+        console::append(text, n, b"\n")
     }
 }
 
@@ -57,9 +59,7 @@ impl Program for Desk {
 
     fn answer(&mut self, line: &[u8], text: &mut [u8]) -> usize {
         let answered = answer_line(self.node, line);
-        self.carry_on(answered.vlr);
-        let n = console::append(text, 0, answered.text.bytes());
-        console::append(text, n, b"\n")
+        self.hand_on(answered, text)
     }
 }
 
