@@ -113,7 +113,7 @@ pub trait ImageFormat {
 }
 
 // A refused reading: the rest of its answer is a record of zeros.
-#[derive(Drop)]
+#[derive(Clone, Copy, Drop)]
 pub struct Refused<R> {
     pub refusal: Refusal,
     pub contents: R,

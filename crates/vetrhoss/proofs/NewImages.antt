@@ -26,7 +26,7 @@ use Rattle.interface_answers.specs.Results as results
 use Rattle.interface_answers.specs.Answers.{has, are_keys}
 use Rattle.vetrhoss.specs.Interface.{Returned, done, refused, new_keys_refusal, new_usim_call, new_auc_call}
 
-abbrev returned_of : Written → Returned Octets
+abbrev pub returned_of : Written → Returned Octets
 returned_of w = record { result = w.refusal; octets = w.image }
 
 -- refusals are numbered from 1
@@ -86,7 +86,7 @@ module _ (edition set : ℕ) (k opc buffer : Octets) where
   unfolding new_keys_refusal
   valid_keys e = passed known (are_keys k opc) e
 
-  admitted : known ≡ true → sets.admits edition (keys_are set k opc) ≡ true
+  pub admitted : known ≡ true → sets.admits edition (keys_are set k opc) ≡ true
   unfolding sets
   admitted e = e
 
